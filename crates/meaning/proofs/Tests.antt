@@ -1,0 +1,103 @@
+-- Tests and what they tell. Assumes nothing.
+use Prim.Native.Nat.{ℕ, zero, suc, _+_, _≤_, _<_}
+use mathlib.Core.Path.{_≡_, refl, ap, sym, _∙_}
+use mathlib.Core.Bool.{Bool, true, false, not, cond, false≢true}
+use mathlib.Core.List.{List, [], _∷_}
+use mathlib.Core.Option.{Option, none, some}
+use lib.Dec.{T, eqb, leb, ltb, eqb→eq, eqb-refl, leb→le, le→leb, ltb→lt, lt→ltb}
+use Rattle.meaning.specs.Bytes.{_∧ᵇ_, within}
+use Rattle.meaning.specs.Types.{sameNumbers}
+use Rattle.meaning.specs.Steps.{_∨ᵇ_}
+
+pub both : (a b : Bool) → a ≡ true → b ≡ true → (a ∧ᵇ b) ≡ true
+unfolding _∧ᵇ_
+both true b p q = q
+both false b p q = p
+
+pub left : (a b : Bool) → (a ∧ᵇ b) ≡ true → a ≡ true
+unfolding _∧ᵇ_
+left true b p = refl
+left false b p = p
+
+pub right : (a b : Bool) → (a ∧ᵇ b) ≡ true → b ≡ true
+unfolding _∧ᵇ_
+right true b p = p
+right false b p = absurd (false≢true p)
+
+pub or-l : (a b : Bool) → a ≡ true → (a ∨ᵇ b) ≡ true
+unfolding _∨ᵇ_
+or-l true b e = refl
+or-l false b e = cc
+
+pub or-r : (a b : Bool) → b ≡ true → (a ∨ᵇ b) ≡ true
+unfolding _∨ᵇ_
+or-r true b e = refl
+or-r false b e = e
+
+pub neither-l : (a b : Bool) → (a ∨ᵇ b) ≡ false → a ≡ false
+unfolding _∨ᵇ_
+neither-l true b e = e
+neither-l false b e = refl
+
+pub neither-r : (a b : Bool) → (a ∨ᵇ b) ≡ false → b ≡ false
+unfolding _∨ᵇ_
+neither-r true b e = cc
+neither-r false b e = e
+
+pub T-of : (b : Bool) → b ≡ true → T b
+T-of b e = rw e tt
+
+pub of-T : (b : Bool) → T b → b ≡ true
+of-T true t = refl
+of-T false t = absurd t
+
+pub eq-if : (m n : ℕ) → eqb m n ≡ true → m ≡ n
+eq-if m n e = eqb→eq m n (T-of (eqb m n) e)
+
+pub eq-same : (n : ℕ) → eqb n n ≡ true
+eq-same n = of-T (eqb n n) (eqb-refl n)
+
+pub eq-of : (m n : ℕ) → m ≡ n → eqb m n ≡ true
+eq-of m n e = rw e (eq-same n)
+
+pub le-if : (m n : ℕ) → leb m n ≡ true → m ≤ n
+le-if m n e = leb→le m n (T-of (leb m n) e)
+
+pub le-of : (m n : ℕ) → m ≤ n → leb m n ≡ true
+le-of m n h = of-T (leb m n) (le→leb m n h)
+
+pub lt-if : (m n : ℕ) → ltb m n ≡ true → m < n
+lt-if m n e = ltb→lt m n (T-of (ltb m n) e)
+
+pub lt-of : (m n : ℕ) → m < n → ltb m n ≡ true
+lt-of m n h = of-T (ltb m n) (lt→ltb m n h)
+
+pub within-if : (a b n : ℕ) → within a b n ≡ true → (a ≤ n) × (n ≤ b)
+unfolding within
+within-if a b n e = (le-if a n (left _ _ e), le-if n b (right _ _ e))
+
+pub within-of : (a b n : ℕ) → a ≤ n → n ≤ b → within a b n ≡ true
+unfolding within
+within-of a b n h k = both _ _ (le-of a n h) (le-of n b k)
+
+-- which way a test went
+pub cond-true : {A : Type 0} (b : Bool) (x y : A) → b ≡ true → cond b x y ≡ x
+cond-true b x y e = rw e refl
+
+pub cond-false : {A : Type 0} (b : Bool) (x y : A) → b ≡ false → cond b x y ≡ y
+cond-false b x y e = rw e refl
+
+pub numbers-is : (a b : List ℕ) → sameNumbers a b ≡ true → a ≡ b
+unfolding sameNumbers
+numbers-is [] [] t = refl
+numbers-is [] (y ∷ ys) t = absurd (false≢true t)
+numbers-is (x ∷ xs) [] t = absurd (false≢true t)
+numbers-is (x ∷ xs) (y ∷ ys) t = cc (eq-if x y (left _ _ t), numbers-is xs ys (right _ _ t))
+
+pub numbers-same : (a : List ℕ) → sameNumbers a a ≡ true
+unfolding sameNumbers
+numbers-same [] = refl
+numbers-same (x ∷ xs) = both _ _ (eq-same x) (numbers-same xs)
+
+pub none-some : {A : Type 0} (a : A) → _≡_ {A = Option A} none (some a) → ⊥
+none-some a e = let z : false ≡ true = cc in false≢true z

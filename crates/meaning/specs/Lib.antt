@@ -1,0 +1,9 @@
+pub mod Bytes
+pub mod Types
+pub mod Terms
+pub mod Typing
+pub mod Paper
+pub mod Steps
+pub mod Answers
+pub mod Records
+pub mod Entries
