@@ -1,3 +1,4 @@
 pub mod Tests
 pub mod Parse
 pub mod Facts
+pub mod Refusals

@@ -24,7 +24,11 @@ use Rattle.meaning.specs.declared.Answer.the-variants.{Value, Waiting, S
 use Rattle.meaning.specs.declared.Run.{Run}
 use Rattle.meaning.specs.declared.Run.the-variants.{Ran, Rejected}
 
--- refused at the place found, or what follows
+-- refused unless a test holds; refused at the place found; or what follows
+unfoldable pub require : Bool → Refusal → Verdict → Verdict
+require true r v = v
+require false r v = Refused r
+
 unfoldable pub refuse : Option ℕ → (ℕ → Refusal) → Verdict → Verdict
 refuse none r v = v
 refuse (some i) r v = Refused (r i)
@@ -70,13 +74,13 @@ programVerdict file =
 -- "Load: 1, 2 (under 10), 3, 4, 5, 2, 6, 7, 8, 9"
 unfoldable pub loadVerdict : Limits → List ℕ → ℕ → Verdict
 loadVerdict m file room =
-    cond (eqb room (recordBytes m))
-    (cond (leb (width fileHead) (length file))
-    (cond (sameNumbers (take 3 (read fileHead file)) (84 ∷ 67 ∷ 65 ∷ []))
-    (cond (eqb (fileNo 3 file) version)
-    (cond (eqb (fileNo 4 file) 0 ∧ᵇ within 1 (m .types) (fileNo 5 file) ∧ᵇ within 1 (m .programRows) (fileNo 6 file))
-    (cond (eqb (length file) (width fileHead + width typeRow * fileNo 5 file + width termRow * fileNo 6 file))
-    (programVerdict file) (Refused Size)) (Refused Count)) (Refused Version)) (Refused Mark)) (Refused Size)) (Refused Length)
+    require (eqb room (recordBytes m)) Length
+    (require (leb (width fileHead) (length file)) Size
+    (require (sameNumbers (take 3 (read fileHead file)) (84 ∷ 67 ∷ 65 ∷ [])) Mark
+    (require (eqb (fileNo 3 file) version) Version
+    (require (eqb (fileNo 4 file) 0 ∧ᵇ within 1 (m .types) (fileNo 5 file) ∧ᵇ within 1 (m .programRows) (fileNo 6 file)) Count
+    (require (eqb (length file) (width fileHead + width typeRow * fileNo 5 file + width termRow * fileNo 6 file)) Size
+    (programVerdict file))))))
 
 -- "An accepted load writes a fresh record: the file's types and rows, next number 1, no open call, row 0's type as program type"
 unfoldable pub loadedState : List ℕ → State
@@ -113,6 +117,19 @@ sent s c u =
       next = suc (s .next);
       program = s .program;
     }
+
+-- the state behind n steps, where there are so many; no limit is looked at
+unfoldable pub onStep : State → Out → Option State
+onStep s stay = none
+onStep s (go none u) = some (stepped s u)
+onStep s (go (some c) u) = some (sent s c u)
+
+unfoldable pub nextState : State → Option State
+nextState s = onStep s (step (formOf (s .types)) (s .next) (s .tree))
+
+unfoldable pub afterSteps : ℕ → State → Option State
+afterSteps zero s = some s
+afterSteps (suc n) s = elim (nextState s) [ none ↦ none | some u ↦ afterSteps n u ]
 
 -- "Before each step, in this order": VALUE, WAITING, HELD, NUMBERS, ROOM, BUDGET
 unfoldable pub tryOut : Limits → State → Out → Try
@@ -215,12 +232,12 @@ answerVerdict m s reply (some ty) =
     refuseShape (shape version (length (s .types)) (replyRows reply)) ReplyRow
     (refuse (firstNot replyKind (replyRows reply)) ReplyKind
     (refuse (replyBad (formOf (s .types)) ty (replyTree reply)) ReplyTyping
-    (cond (leb (size (settle (replyNo 0 reply) (replyTree reply) (s .tree))) (m .rows)) Accepted (Refused ReplyRoom))))
+    (require (leb (size (settle (replyNo 0 reply) (replyTree reply) (s .tree))) (m .rows)) ReplyRoom Accepted)))
 
 -- "Reply: 1, 10, then 11 to 16"
 unfoldable pub replyVerdict : Limits → State → List ℕ → Verdict
 replyVerdict m s reply =
-    cond (replyHeadOk m reply) (answerVerdict m s reply (listed (s .calls) (replyNo 0 reply))) (Refused Header)
+    require (replyHeadOk m reply) Header (answerVerdict m s reply (listed (s .calls) (replyNo 0 reply)))
 
 -- "taking one out, gives the list back whole", "takes the entry out"
 unfoldable pub without : ℕ → List Entry → List Entry
