@@ -1,5 +1,12 @@
 pub mod Tests
 pub mod Parse
 pub mod Facts
+pub mod Views
+pub mod Checks
+pub mod PaperRules
+pub mod Puts
+pub mod Layouts
+pub mod Shapes
 pub mod Refusals
 pub mod Running
+pub mod Loading

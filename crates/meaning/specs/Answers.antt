@@ -1,5 +1,6 @@
 -- Document 01's number and place for each answer and refusal. Assumes nothing.
 use Prim.Native.Nat.{ℕ}
+use mathlib.Core.Bool.{Bool, true, false}
 use Rattle.meaning.specs.declared.Fault.{Fault}
 use Rattle.meaning.specs.declared.Refusal.{Refusal}
 use Rattle.meaning.specs.declared.Refusal.the-variants.{Length, Size, Mark, Version, Count, TypeRow, Row, Future, Typing, Unsound, Header, NotOpen, ReplyRow, ReplyKind, ReplyTyping, ReplyRoom}
@@ -7,6 +8,8 @@ use Rattle.meaning.specs.declared.Verdict.{Verdict}
 use Rattle.meaning.specs.declared.Verdict.the-variants.{Accepted, Refused}
 use Rattle.meaning.specs.declared.Answer.{Answer}
 use Rattle.meaning.specs.declared.Answer.the-variants.{Value, Waiting, Sent, Held, Budget, Room, Numbers}
+use Rattle.meaning.specs.declared.Run.{Run}
+use Rattle.meaning.specs.declared.Run.the-variants.{Ran, Rejected}
 
 -- which number a shape fault of a program has, and of a reply
 abbrev pub rowNumber : Fault → ℕ
@@ -79,3 +82,15 @@ sentNumber Held = 0
 sentNumber Budget = 0
 sentNumber Room = 0
 sentNumber Numbers = 0
+
+-- "Run .. gives answer, sent number or 0, and steps made"; a refused run is a case of its own, with the refusal's number and place
+pub record Figures : Type 0 where
+  pub refused : Bool
+  pub number : ℕ
+  pub place : ℕ
+  pub sent : ℕ
+  pub steps : ℕ
+
+abbrev pub runFigures : Run → Figures
+runFigures (Ran a n) = record { refused = false; number = answerNumber a; place = 0; sent = sentNumber a; steps = n }
+runFigures (Rejected r) = record { refused = true; number = refusalNumber r; place = refusalPlace r; sent = 0; steps = 0 }

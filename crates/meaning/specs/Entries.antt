@@ -1,7 +1,8 @@
 -- Load, run and reply as total functions: from all bytes lent and all numbers passed to all bytes after and all numbers returned;
 -- and histories of calls. Assumes nothing.
-use Prim.Native.Nat.{ℕ, zero, suc, _+_, _*_}
-use mathlib.Core.Bool.{Bool, true, false, cond}
+use Prim.Native.Nat.{ℕ, zero, suc, _+_, _*_, _≤_}
+use mathlib.Core.Path.{_≡_}
+use mathlib.Core.Bool.{Bool, true, false, cond, not}
 use mathlib.Core.List.{List, [], _∷_, _++_, map}
 use mathlib.Core.Option.{Option, none, some}
 use lib.Dec.{eqb, leb, ltb}
@@ -51,23 +52,29 @@ pub record Loaded : Type 0 where
 abbrev pub fileNo : ℕ → List ℕ → ℕ
 fileNo i file = getD (read fileHead file) i 0
 
+abbrev pub fileTypeCount : List ℕ → ℕ
+fileTypeCount file = fileNo 5 file
+
+abbrev pub fileRowCount : List ℕ → ℕ
+fileRowCount file = fileNo 6 file
+
 unfoldable pub fileTypes : List ℕ → List (List ℕ)
-fileTypes file = reads typeRow (fileNo 5 file) (drop (width fileHead) file)
+fileTypes file = reads typeRow (fileTypeCount file) (drop (width fileHead) file)
 
 unfoldable pub fileRows : List ℕ → List (List ℕ)
-fileRows file = reads termRow (fileNo 6 file) (drop (width fileHead + width typeRow * fileNo 5 file) file)
+fileRows file = reads termRow (fileRowCount file) (drop (width fileHead + width typeRow * fileTypeCount file) file)
 
 unfoldable pub fileTree : List ℕ → Tree
 fileTree file = treeOf (map rowOf (fileRows file))
 
 unfoldable pub noFuture : List ℕ → Bool
-noFuture r = cond (eqb (kindNo r) 9) false true
+noFuture r = not (eqb (kindNo r) 9)
 
 -- refusals 6, 7, 8, 9
 unfoldable pub programVerdict : List ℕ → Verdict
 programVerdict file =
     refuse (badType version (fileTypes file)) TypeRow
-    (refuseShape (shape version (fileNo 5 file) (fileRows file)) Row
+    (refuseShape (shape version (fileTypeCount file) (fileRows file)) Row
     (refuse (firstNot noFuture (fileRows file)) Future
     (refuse (firstBad (formOf (fileTypes file)) empty (fileTree file)) Typing Accepted)))
 
@@ -78,9 +85,24 @@ loadVerdict m file room =
     (require (leb (width fileHead) (length file)) Size
     (require (sameNumbers (take 3 (read fileHead file)) (84 ∷ 67 ∷ 65 ∷ [])) Mark
     (require (eqb (fileNo 3 file) version) Version
-    (require (eqb (fileNo 4 file) 0 ∧ᵇ within 1 (m .types) (fileNo 5 file) ∧ᵇ within 1 (m .programRows) (fileNo 6 file)) Count
-    (require (eqb (length file) (width fileHead + width typeRow * fileNo 5 file + width termRow * fileNo 6 file)) Size
+    (require (eqb (fileNo 4 file) 0 ∧ᵇ within 1 (m .types) (fileTypeCount file) ∧ᵇ within 1 (m .programRows) (fileRowCount file)) Count
+    (require (eqb (length file) (width fileHead + width typeRow * fileTypeCount file + width termRow * fileRowCount file)) Size
     (programVerdict file))))))
+
+-- "A program is of legal form if it meets nothing before 9" (the record's length is the caller's)
+pub record LegalFile (m : Limits) (file : List ℕ) : Type 0 where
+  pub long : width fileHead ≤ length file
+  pub mark : take 3 (read fileHead file) ≡ 84 ∷ 67 ∷ 65 ∷ []
+  pub edition : fileNo 3 file ≡ version
+  pub zero-byte : fileNo 4 file ≡ 0
+  pub types-some : 1 ≤ fileTypeCount file
+  pub types-many : fileTypeCount file ≤ m .types
+  pub rows-some : 1 ≤ fileRowCount file
+  pub rows-many : fileRowCount file ≤ m .programRows
+  pub size : length file ≡ width fileHead + width typeRow * fileTypeCount file + width termRow * fileRowCount file
+  pub types-good : badType version (fileTypes file) ≡ none
+  pub one-tree : shape version (fileTypeCount file) (fileRows file) ≡ Whole
+  pub no-future : firstNot noFuture (fileRows file) ≡ none
 
 -- "An accepted load writes a fresh record: the file's types and rows, next number 1, no open call, row 0's type as program type"
 unfoldable pub loadedState : List ℕ → State
@@ -204,8 +226,14 @@ pub record Replied : Type 0 where
 abbrev pub replyNo : ℕ → List ℕ → ℕ
 replyNo i reply = getD (read replyHead reply) i 0
 
+abbrev pub replyNumber : List ℕ → ℕ
+replyNumber reply = replyNo 0 reply
+
+abbrev pub replyCount : List ℕ → ℕ
+replyCount reply = replyNo 1 reply
+
 unfoldable pub replyRows : List ℕ → List (List ℕ)
-replyRows reply = reads termRow (replyNo 1 reply) (drop (width replyHead) reply)
+replyRows reply = reads termRow (replyCount reply) (drop (width replyHead) reply)
 
 unfoldable pub replyTree : List ℕ → Tree
 replyTree reply = treeOf (map rowOf (replyRows reply))
@@ -214,9 +242,14 @@ replyTree reply = treeOf (map rowOf (replyRows reply))
 unfoldable pub replyHeadOk : Limits → List ℕ → Bool
 replyHeadOk m reply =
     leb (width replyHead) (length reply)
-    ∧ᵇ within 1 (m .replyRows) (replyNo 1 reply)
+    ∧ᵇ within 1 (m .replyRows) (replyCount reply)
     ∧ᵇ eqb (replyNo 2 reply) 0
-    ∧ᵇ eqb (length reply) (width replyHead + width termRow * replyNo 1 reply)
+    ∧ᵇ eqb (length reply) (width replyHead + width termRow * replyCount reply)
+
+-- "a reply [is of legal form] if it meets neither 11 nor 13"
+pub record LegalReply (m : Limits) (s : State) (reply : List ℕ) : Type 0 where
+  pub header : replyHeadOk m reply ≡ true
+  pub one-tree : shape version (length (s .types)) (replyRows reply) ≡ Whole
 
 -- refusal 14: "not of kind 1 to 4, 12, 13, 16"
 unfoldable pub replyKind : List ℕ → Bool
@@ -232,12 +265,12 @@ answerVerdict m s reply (some ty) =
     refuseShape (shape version (length (s .types)) (replyRows reply)) ReplyRow
     (refuse (firstNot replyKind (replyRows reply)) ReplyKind
     (refuse (replyBad (formOf (s .types)) ty (replyTree reply)) ReplyTyping
-    (require (leb (size (settle (replyNo 0 reply) (replyTree reply) (s .tree))) (m .rows)) ReplyRoom Accepted)))
+    (require (leb (size (settle (replyNumber reply) (replyTree reply) (s .tree))) (m .rows)) ReplyRoom Accepted)))
 
 -- "Reply: 1, 10, then 11 to 16"
 unfoldable pub replyVerdict : Limits → State → List ℕ → Verdict
 replyVerdict m s reply =
-    require (replyHeadOk m reply) Header (answerVerdict m s reply (listed (s .calls) (replyNo 0 reply)))
+    require (replyHeadOk m reply) Header (answerVerdict m s reply (listed (s .calls) (replyNumber reply)))
 
 -- "taking one out, gives the list back whole", "takes the entry out"
 unfoldable pub without : ℕ → List Entry → List Entry
@@ -248,8 +281,8 @@ unfoldable pub repliedState : State → List ℕ → State
 repliedState s reply =
     record {
       types = s .types;
-      tree = settle (replyNo 0 reply) (replyTree reply) (s .tree);
-      calls = without (replyNo 0 reply) (s .calls);
+      tree = settle (replyNumber reply) (replyTree reply) (s .tree);
+      calls = without (replyNumber reply) (s .calls);
       next = s .next;
       program = s .program;
     }

@@ -1,6 +1,8 @@
--- The paper's typing rules, 3 to 34, as they are printed there: `Has Γ t T` says that t has type T where names mean Γ. A type is its
--- number ("equal types have equal numbers"); each row states its type and, house, a written function stands below fix.
--- Assumes nothing.
+-- The paper's typing rules among its rules 3 to 34: `Has Γ t T` says that t has type T where names mean Γ. The numbers that are not
+-- here (5 to 7, 12, 14, 15, 19, 21, 22, 26, 28, 29, 33) are the paper's grammar of terms and types: our `Head`, `Form` and `ground`.
+-- House: a type is its number ("equal types have equal numbers") and each row states it; "names at an application aren't repeated" (11);
+-- "a future has the type it states" (13's ground type is asked of the open list); a written function stands below fix (20); that a
+-- zip's mask is not empty (27) is asked of the row's field. Assumes nothing.
 use Prim.Native.Nat.{ℕ, suc}
 use mathlib.Core.Path.{_≡_}
 use mathlib.Core.List.{List, [], _∷_}

@@ -1,5 +1,5 @@
 -- The run record: the state that it holds, its bytes, and when it is sound. Assumes nothing.
-use Prim.Native.Nat.{ℕ, zero, suc, _+_, _*_, _-_}
+use Prim.Native.Nat.{ℕ, suc, _+_, _*_, _-_}
 use mathlib.Core.Bool.{Bool, true, false, cond}
 use mathlib.Core.List.{List, [], _∷_, _++_, map}
 use mathlib.Core.Option.{Option, none, some}
@@ -7,10 +7,9 @@ use lib.Dec.{eqb, leb, ltb}
 use lib.ListN.{length, take, drop, getD}
 use Rattle.meaning.specs.Bytes.{_∧ᵇ_, within, zeros, Layout, width, read, write, reads, writes, padded, typeRow, termRow, recordHead, entryRow, Limits, typesAt, callsAt, rowsAt}
 use Rattle.meaning.specs.Types.{Form, formOf, ground, badType, sameNumbers, empty}
-use Rattle.meaning.specs.Terms.{Tree, tyOf, Row, flat, size, kindNo, typeNo, wordNo, raw, rowOf, shape, treeOf}
+use Rattle.meaning.specs.Terms.{Tree, tyOf, flat, size, kindNo, typeNo, wordNo, raw, rowOf, shape, treeOf}
 use Rattle.meaning.specs.Typing.{given, firstBad}
 use Rattle.meaning.specs.Steps.{Entry}
-use Rattle.meaning.specs.declared.Fault.{Fault}
 use Rattle.meaning.specs.declared.Shape.{Shape}
 use Rattle.meaning.specs.declared.Shape.the-variants.{Whole, Bad}
 
@@ -62,6 +61,9 @@ openCount b = headNo 7 b
 abbrev pub nextNumber : List ℕ → ℕ
 nextNumber b = headNo 8 b
 
+abbrev pub programType : List ℕ → ℕ
+programType b = headNo 9 b
+
 unfoldable pub typesIn : List ℕ → List (List ℕ)
 typesIn b = reads typeRow (typeCount b) (drop typesAt b)
 
@@ -81,7 +83,7 @@ stateOf m b =
       tree = treeOf (map rowOf (rowsIn m b));
       calls = map entryOf (entriesIn m b);
       next = nextNumber b;
-      program = headNo 9 b;
+      program = programType b;
     }
 
 -- Soundness, a test a sentence -----------------------------------------------------------------------------------
@@ -155,7 +157,7 @@ futuresSound m b = nothing (firstNot (futureListed (stateOf m b .calls)) (rowsIn
 
 -- "the first row has the program type"
 unfoldable pub programSound : Limits → List ℕ → Bool
-programSound m b = eqb (tyOf (stateOf m b .tree)) (headNo 9 b)
+programSound m b = eqb (tyOf (stateOf m b .tree)) (programType b)
 
 unfoldable pub sound : Limits → List ℕ → Bool
 sound m b =

@@ -1,5 +1,5 @@
 -- Steps: names replaced at once, futures settled, values, what reduces at a row, where the rules look below it. Assumes nothing.
-use Prim.Native.Nat.{ℕ, zero, suc, _+_}
+use Prim.Native.Nat.{ℕ, zero, suc}
 use mathlib.Core.Bool.{Bool, true, false, cond, not}
 use mathlib.Core.List.{List, [], _∷_}
 use mathlib.Core.Option.{Option, none, some}
@@ -112,7 +112,7 @@ unfoldable pub become : Option Tree → Out
 become none = stay
 become (some t) = go none t
 
--- paper 6.2: "when the child is true or false"
+-- "when the child is true or false"
 unfoldable pub ifStep : Tree → Tree → Tree → Out
 ifStep c a b = cond (is 3 c) (go none a) (cond (is 4 c) (go none b) stay)
 
@@ -201,7 +201,8 @@ module _ (form : ℕ → Form) where
 
 -- Where the rules look below a row -------------------------------------------------------------------------------
 
--- places among a row's children, counted from 0; exactly: nowhere when the row itself reduces
+-- places among a row's children, counted from 0. Where the row itself reduces they are none, or, of a call that is sent, hold values
+-- only; and none lies below a binder, so what is put for a name is closed
 abbrev pub Places : Type 0
 Places = ℕ → Bool
 

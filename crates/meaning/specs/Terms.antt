@@ -1,9 +1,9 @@
 -- Terms: heads and trees, the kinds table, rows against trees, and the shape that refusals 7 and 13 test. Assumes nothing.
 use Prim.Native.Nat.{ℕ, zero, suc, _+_}
 use mathlib.Core.Bool.{Bool, true, false, cond}
-use mathlib.Core.List.{List, [], _∷_, _++_, map}
+use mathlib.Core.List.{List, [], _∷_, _++_}
 use mathlib.Core.Option.{Option, none, some}
-use lib.Dec.{eqb, leb, ltb}
+use lib.Dec.{eqb, ltb}
 use lib.ListN.{getD, drop}
 use Rattle.meaning.specs.Bytes.{_∧ᵇ_, within}
 use Rattle.meaning.specs.declared.Fault.{Fault}
@@ -194,8 +194,40 @@ an-n low high = record { nLow = low; nHigh = high; wLow = 0; wHigh = 0 }
 
 abbrev pub kindFields : List Fields
 kindFields =
-    none-used ∷ any-word ∷ any-word ∷ none-used ∷ none-used ∷ a-number ∷ none-used ∷ a-number ∷ an-n 0 8 ∷ a-number
-    ∷ none-used ∷ none-used ∷ none-used ∷ none-used ∷ none-used ∷ an-n 1 255 ∷ an-n 1 8 ∷ an-n 1 8 ∷ an-n 1 8 ∷ a-number ∷ []
+    -- 0, no kind
+    none-used
+    -- 1 str, 2 file
+    ∷ any-word
+    ∷ any-word
+    -- 3 true, 4 false
+    ∷ none-used
+    ∷ none-used
+    -- 5 variable: name
+    ∷ a-number
+    -- 6 native function
+    ∷ none-used
+    -- 7 foreign function: tool
+    ∷ a-number
+    -- 8 apply: n arguments
+    ∷ an-n 0 8
+    -- 9 future: call number
+    ∷ a-number
+    -- 10 if, 11 fix, 12 nil, 13 cons, 14 isnil
+    ∷ none-used
+    ∷ none-used
+    ∷ none-used
+    ∷ none-used
+    ∷ none-used
+    -- 15 zip: mask
+    ∷ an-n 1 255
+    -- 16 tuple: n elements
+    ∷ an-n 1 8
+    -- 17 project, 18 list project: place
+    ∷ an-n 1 8
+    ∷ an-n 1 8
+    -- 19 let: name
+    ∷ a-number
+    ∷ []
 
 -- which kinds an edition of the file knows: edition 1 those up to 19
 unfoldable pub lastKind : ℕ → ℕ

@@ -70,7 +70,7 @@ result r = getD r 2 0
 unfoldable pub parts : List ℕ → List Param
 parts r = take (partsNo r) (pairs (drop 3 r))
 
--- "Forms: 1 Str, 2 File, 3 Bool, 4 List (result = element), 5 tuple, 6 native function, 7 foreign function"
+-- "Forms: 1 Str, 2 File, 3 Bool, 4 List (result = element), 5 tuple .., 6 native function, 7 foreign function"
 unfoldable pub formRow : List ℕ → Form
 formRow r =
     cond (eqb (formNo r) 1) (base Str)
