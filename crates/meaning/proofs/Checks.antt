@@ -9,9 +9,9 @@ use native.Mathlib.Omega.{arith}
 use lib.Dec.{eqb}
 use lib.ListN.{length, getD, length-append}
 use Rattle.meaning.specs.Bytes.{_∧ᵇ_}
-use Rattle.meaning.specs.Types.{Base, Str, File, Truth, Side, ntv, frn, Param, Form, absent, base, fList, fTuple, fFun, params, types, Ctx, _⹁_, place, low, rest, sameNumbers}
-use Rattle.meaning.specs.Terms.{Lit, str, file, truth, Head, lit, var, lambda, foreign, apply, future, ite, fix, nil, cons, isnil, zip, tuple, project, lproject, bind, arity, Tree, Forest, node, end, more, size, sizes}
-use Rattle.meaning.specs.Typing.{Tys, ⟨⟩, _▹_, list, tys, litBase, belowOk, baseNo, isBase, whenList, whenTuple, whenFun, whenMore, sameSide, sameParams, given, stop, before, later, Masked, Zipped, Rule, scope, Typed, TypedF, maskedOk, zippedOk, ruleOk, rowOk, firstBad, firstBads}
+use Rattle.meaning.specs.Types.{Base, Str, File, Truth, Side, ntv, frn, Param, Form, absent, base, fList, fTuple, fFun, types, Ctx, _⹁_, rest}
+use Rattle.meaning.specs.Terms.{Head, lit, var, lambda, foreign, apply, future, ite, fix, nil, cons, isnil, zip, tuple, project, lproject, bind, arity, Tree, Forest, node, end, more, size, sizes}
+use Rattle.meaning.specs.Typing.{Tys, ⟨⟩, _▹_, tys, litBase, baseNo, isBase, whenList, whenTuple, whenFun, whenMore, sameSide, sameParams, given, stop, before, later, Masked, Zipped, Rule, scope, Typed, TypedF, maskedOk, zippedOk, ruleOk, rowOk, firstBad, firstBads}
 use Rattle.meaning.proofs.Tests.{both, left, right, eq-if, eq-of, eq-same, numbers-is, numbers-same, none-some}
 
 -- Tests on forms -------------------------------------------------------------------------------------------------

@@ -2,12 +2,12 @@
 use Prim.Native.Nat.{ℕ, zero, suc, _+_, _*_, _/_, _%_, _-_, _≤_, _<_}
 use mathlib.Core.Path.{_≡_, refl, ap, sym, _∙_}
 use mathlib.Core.Bool.{Bool, true, false}
-use mathlib.Core.List.{List, [], _∷_, _++_, append-assoc}
+use mathlib.Core.List.{List, [], _∷_, _++_, map, append-assoc}
 use native.Mathlib.Omega.{arith}
 use native.Mathlib.Nat.{add-zero, add-suc}
 use native.Mathlib.Decide.{decLt}
-use lib.ListN.{length, take, drop, getD, replicate, length-append, length-drop, length-replicate, getD-replicate, drop-of-length-le, List·getD-eq-default, List·getD-append}
-use lib.Seq.{drop-nil, take-nil, drop-drop, take-add, getD-drop, getD-take, getD-append-add, drop-at, take-all}
+use lib.ListN.{length, take, drop, getD, replicate, length-append, length-drop, length-replicate, take-append-drop, drop-of-length-le, List·getD-eq-default, List·getD-append}
+use lib.Seq.{drop-nil, take-nil, drop-cons, drop-drop, take-add, getD-drop, getD-take, getD-append-add, drop-at, take-all}
 use Rattle.meaning.specs.Bytes.{zeros, number, spell, Layout, width, read, write, reads, writes, padded}
 use Rattle.meaning.proofs.Tests.{both, left, right, eq-if, eq-same}
 
@@ -42,6 +42,10 @@ pub bytes-take : (n : ℕ) (s : List ℕ) → AllBytes s → AllBytes (take n s)
 bytes-take zero s h = bytes-nil
 bytes-take (suc n) [] h = bytes-nil
 bytes-take (suc n) (b ∷ s) h = bytes-cons b (take n s) (h 0) (bytes-take n s (bytes-tail b s h))
+
+-- n bytes from place p on, and those behind them
+pub joins : (p n : ℕ) (s : List ℕ) → take n (drop p s) ++ drop (p + n) s ≡ drop p s
+joins p n s = rw (← (drop-drop n p s)) (take-append-drop n (drop p s))
 
 pub bytes-zeros : (n : ℕ) → AllBytes (replicate n 0)
 bytes-zeros zero = bytes-nil
@@ -169,11 +173,35 @@ write-read [] s h k = refl
 write-read (w ∷ l) s h k =
     rw (take-add w (width l) s, spell-number w s h (omega arith), write-read l (drop w s) (bytes-drop w s h) (rw length-drop (omega arith)))
 
+-- n numbers of a row, from the i-th on
+abbrev pub fields : List ℕ → ℕ → ℕ → List ℕ
+fields ns i zero = []
+fields ns i (suc n) = getD ns i 0 ∷ fields ns (suc i) n
+
+pub fields-from : (ns : List ℕ) (i n : ℕ) → length ns ≡ i + n → drop i ns ≡ fields ns i n
+fields-from ns i zero h = drop-of-length-le ns {i = i} (omega arith)
+fields-from ns i (suc n) h = rw (drop-cons ns i 0 (omega arith)) (ap (λ (l : List ℕ). getD ns i 0 ∷ l) (fields-from ns (suc i) n (omega arith)))
+
 -- Tables ---------------------------------------------------------------------------------------------------------
 
-unfoldable pub AllFit : Layout → List (List ℕ) → Type 0
-AllFit l [] = Unit {0}
-AllFit l (r ∷ rs) = Fits l r × AllFit l rs
+-- a fact of each of a list
+unfoldable pub Each : {A : Type 0} → (A → Type 0) → List A → Type 0
+Each P [] = Unit {0}
+Each P (x ∷ xs) = P x × Each P xs
+
+pub each-at : {A : Type 0} (P : A → Type 0) (xs : List A) (i : ℕ) (d : A) → Each P xs → i < length xs → P (getD xs i d)
+unfolding Each
+each-at P [] i d e h = absurd (omega arith)
+each-at P (x ∷ xs) zero d (p, e) h = p
+each-at P (x ∷ xs) (suc i) d (p, e) h = each-at P xs i d e (omega arith)
+
+pub each-map : {A B : Type 0} (P : A → Type 0) (Q : B → Type 0) (f : A → B) (xs : List A) → ((x : A) → P x → Q (f x)) → Each P xs → Each Q (map f xs)
+unfolding Each
+each-map P Q f [] k e = tt
+each-map P Q f (x ∷ xs) k (p, e) = (k x p, each-map P Q f xs k e)
+
+abbrev pub AllFit : Layout → List (List ℕ) → Type 0
+AllFit l rs = Each (Fits l) rs
 
 pub length-reads : (l : Layout) (n : ℕ) (s : List ℕ) → length (reads l n s) ≡ n
 unfolding reads
@@ -181,7 +209,7 @@ length-reads l zero s = refl
 length-reads l (suc n) s = ap suc (length-reads l n (drop (width l) s))
 
 pub reads-fit : (l : Layout) (n : ℕ) (s : List ℕ) → AllBytes s → AllFit l (reads l n s)
-unfolding reads AllFit
+unfolding reads Each
 reads-fit l zero s h = tt
 reads-fit l (suc n) s h = (read-fits l s h, reads-fit l n (drop (width l) s) (bytes-drop (width l) s h))
 
@@ -196,7 +224,7 @@ bytes-writes l [] = bytes-nil
 bytes-writes l (r ∷ rs) = bytes-append (write l r) _ (bytes-write l r) (bytes-writes l rs)
 
 pub reads-writes : (l : Layout) (rs : List (List ℕ)) (s : List ℕ) → AllFit l rs → reads l (length rs) (writes l rs ++ s) ≡ rs
-unfolding reads writes AllFit
+unfolding reads writes Each
 reads-writes l [] s f = refl
 reads-writes l (r ∷ rs) s (h, f) =
     rw (append-assoc (write l r) (writes l rs) s, read-write l r (writes l rs ++ s) h, drop-at (write l r) (writes l rs ++ s) (width l) (length-write l r), reads-writes l rs s f)
@@ -217,11 +245,10 @@ reads-at l (suc n) (suc i) s d h =
     reads-at l n i (drop (width l) s) d (omega arith) ∙ ap (read l) (drop-drop (width l * i) (width l) s ∙ ap (λ (x : ℕ). drop x s) e)
 
 -- rows of so many numbers each
-unfoldable pub Wide : ℕ → List (List ℕ) → Type 0
-Wide n [] = Unit {0}
-Wide n (r ∷ rs) = (length r ≡ n) × Wide n rs
+abbrev pub Wide : ℕ → List (List ℕ) → Type 0
+Wide n rs = Each (λ r. length r ≡ n) rs
 
 pub reads-wide : (l : Layout) (n : ℕ) (s : List ℕ) → Wide (length l) (reads l n s)
-unfolding reads Wide
+unfolding reads Each
 reads-wide l zero s = tt
 reads-wide l (suc n) s = (length-read l s, reads-wide l n (drop (width l) s))

@@ -1,5 +1,5 @@
 -- The rules of the rows say what the paper's rules say. Assumes nothing.
-use Prim.Native.Nat.{ℕ, zero, suc}
+use Prim.Native.Nat.{ℕ, suc}
 use mathlib.Core.Path.{_≡_, refl, ap}
 use mathlib.Core.Bool.{true}
 use mathlib.Core.List.{List, []}

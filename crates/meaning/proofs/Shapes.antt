@@ -21,7 +21,7 @@ use Rattle.meaning.specs.declared.Shape.the-variants.{Whole, Bad}
 use Rattle.meaning.proofs.Tests.{both, left, right, lt-if, lt-of, within-if, within-of, none-some}
 use Rattle.meaning.proofs.Parse.{sizes-split, kids-rows, length-flat, flat-inj}
 use Rattle.meaning.proofs.Facts.{Fact, Every, Everys, AllRows, every-rows, rows-every, rows-left, rows-right}
-use Rattle.meaning.proofs.Layouts.{Wide}
+use Rattle.meaning.proofs.Layouts.{Each, Wide}
 
 -- One row --------------------------------------------------------------------------------------------------------
 
@@ -46,6 +46,11 @@ head-back (tuple n) = refl
 head-back (project i) = refl
 head-back (lproject i) = refl
 head-back (bind x) = refl
+
+-- kind 9 is a future of the number in its word
+pub future-code : (h : Head) → code h ≡ 9 → h ≡ future (wordOf h)
+unfolding headFrom
+future-code h e = sym (head-back h) ∙ ap (λ (k : ℕ). headFrom k (nOf h) (wordOf h)) e
 
 -- a row is told by its numbers
 pub row-raw : (r : Row) → rowOf (raw r) ≡ r
@@ -140,17 +145,16 @@ raw-row edition count (k ∷ n ∷ t ∷ w ∷ []) e q =
 abbrev pub legal : ℕ → Fact
 legal count h u = rowFault version count (raw (record { head = h; type = u })) ≡ none
 
-unfoldable pub Clear : ℕ → ℕ → List (List ℕ) → Type 0
-Clear edition count [] = Unit {0}
-Clear edition count (r ∷ l) = (rowFault edition count r ≡ none) × Clear edition count l
+abbrev pub Clear : ℕ → ℕ → List (List ℕ) → Type 0
+Clear edition count rows = Each (λ r. rowFault edition count r ≡ none) rows
 
 pub rows-back : (edition count : ℕ) (l : List (List ℕ)) → Clear edition count l → Wide 4 l → map raw (map rowOf l) ≡ l
-unfolding Clear Wide
+unfolding Each
 rows-back edition count [] c w = refl
 rows-back edition count (r ∷ l) (e, c) (q, w) = cc (raw-row edition count r e q, rows-back edition count l c w)
 
 clear-legal : (count : ℕ) (l : List (List ℕ)) → Clear version count l → Wide 4 l → AllRows (legal count) (map rowOf l)
-unfolding Clear Wide AllRows
+unfolding Each AllRows
 clear-legal count [] c w = tt
 clear-legal count (r ∷ l) (e, c) (q, w) = (rw (raw-row version count r e q) e, clear-legal count l c w)
 
@@ -164,7 +168,7 @@ no-fault (some f) i s e = absurd (bad-whole f i e)
 
 -- each row is in range, and the trees owed end with the last row
 pub accepted : (edition count : ℕ) (l : List (List ℕ)) (owed i : ℕ) → shapeFrom edition count l owed i ≡ Whole → Clear edition count l × (sizes (kids owed (trees (map rowOf l))) ≡ length l)
-unfolding shapeFrom Clear kids trees size
+unfolding shapeFrom Each kids trees size
 accepted edition count [] zero i e = (tt, refl)
 accepted edition count [] (suc k) i e = absurd (bad-whole _ _ e)
 accepted edition count (r ∷ l) zero i e = absurd (bad-whole _ _ (no-fault (rowFault edition count r) _ _ e .1))

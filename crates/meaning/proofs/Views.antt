@@ -1,7 +1,7 @@
 -- What the number of a kind tells of a tree: its head and the trees below it. Assumes nothing.
-use Prim.Native.Nat.{ℕ, zero, suc}
+use Prim.Native.Nat.{ℕ}
 use mathlib.Core.Path.{_≡_, refl, ap, sym, _∙_, subst}
-use mathlib.Core.Bool.{Bool, true, false}
+use mathlib.Core.Bool.{true, false}
 use lib.Dec.{eqb}
 use Rattle.meaning.specs.Terms.{Lit, str, file, truth, Head, lit, var, lambda, foreign, apply, future, ite, fix, nil, cons, isnil, zip, tuple, project, lproject, bind, arity, code, nOf, wordOf, headFrom, Tree, Forest, node, end, more, headOf, tyOf, is}
 use Rattle.meaning.specs.Typing.{belowOk}
