@@ -8,11 +8,12 @@ use mathlib.Core.Option.{Option, none, some}
 use native.Mathlib.Omega.{arith}
 use lib.Dec.{eqb}
 use lib.ListN.{length, getD, length-append}
+use borrow.Author.Tests.{eq-eqb, eqb-true}
 use Rattle.meaning.specs.Bytes.{_∧ᵇ_}
 use Rattle.meaning.specs.Types.{Base, Str, File, Truth, Side, ntv, frn, Param, Form, absent, base, fList, fTuple, fFun, types, Ctx, _⹁_, rest}
 use Rattle.meaning.specs.Terms.{Head, lit, var, lambda, foreign, apply, future, ite, fix, nil, cons, isnil, zip, tuple, project, lproject, bind, arity, Tree, Forest, node, end, more, size, sizes}
 use Rattle.meaning.specs.Typing.{Tys, ⟨⟩, _▹_, tys, litBase, baseNo, isBase, whenList, whenTuple, whenFun, whenMore, sameSide, sameParams, given, stop, before, later, Masked, Zipped, Rule, scope, Typed, TypedF, maskedOk, zippedOk, ruleOk, rowOk, firstBad, firstBads}
-use Rattle.meaning.proofs.Tests.{both, left, right, eq-if, eq-of, eq-same, numbers-is, numbers-same, none-some}
+use Rattle.meaning.proofs.Tests.{both, left, right, eq-same, numbers-is, numbers-same, none-some}
 
 -- Tests on forms -------------------------------------------------------------------------------------------------
 
@@ -34,8 +35,8 @@ params-is [] [] t = refl
 params-is [] (y ∷ ys) t = absurd (false≢true t)
 params-is (x ∷ xs) [] t = absurd (false≢true t)
 params-is (x ∷ xs) (y ∷ ys) t =
-    let p : x .name ≡ y .name = eq-if _ _ (left _ _ t) in
-    let q : x .type ≡ y .type = eq-if _ _ (left _ _ (right _ _ t)) in
+    let p : x .name ≡ y .name = eqb-true _ _ (left _ _ t) in
+    let q : x .type ≡ y .type = eqb-true _ _ (left _ _ (right _ _ t)) in
     let r : xs ≡ ys = params-is xs ys (right _ _ (right _ _ t)) in
     λ i. record { name = p i; type = q i } ∷ r i
 
@@ -47,7 +48,7 @@ params-same (x ∷ xs) = both _ _ (eq-same (x .name)) (both _ _ (eq-same (x .typ
 pub given-is : (o : Option ℕ) (t : ℕ) → given o t ≡ true → o ≡ some t
 unfolding given
 given-is none t p = absurd (false≢true p)
-given-is (some u) t p = ap some (eq-if u t p)
+given-is (some u) t p = ap some (eqb-true u t p)
 
 pub given-of : (o : Option ℕ) (t : ℕ) → o ≡ some t → given o t ≡ true
 unfolding given
@@ -185,27 +186,27 @@ first-false-at (true ∷ l) i e = behind (firstFalse l) (first-false-at l) e
 module _ (form : ℕ → Form) where
   masked-if : (b : Bool) (t u : ℕ) → (maskedOk form b t u ≡ true) → Masked form b t u
   unfolding maskedOk Masked
-  masked-if true t u p = let r = list-if (form u) (λ e. eqb e t) p in r .1 ∙ ap fList (eq-if (r .0) t (r .2))
-  masked-if false t u p = eq-if u t p
+  masked-if true t u p = let r = list-if (form u) (λ e. eqb e t) p in r .1 ∙ ap fList (eqb-true (r .0) t (r .2))
+  masked-if false t u p = eqb-true u t p
 
   masked-of : (b : Bool) (t u : ℕ) → Masked form b t u → (maskedOk form b t u ≡ true)
   unfolding maskedOk Masked
   masked-of true t u p = list-of (form u) (λ e. eqb e t) t p (eq-same t)
-  masked-of false t u p = eq-of u t p
+  masked-of false t u p = eq-eqb u t p
 
   zipped-if : (m : ℕ) (ps qs : List Param) → (zippedOk form m ps qs ≡ true) → Zipped form m ps qs
   unfolding zippedOk Zipped
-  zipped-if m [] [] t = eq-if m 0 t
+  zipped-if m [] [] t = eqb-true m 0 t
   zipped-if m [] (q ∷ qs) t = absurd (false≢true t)
   zipped-if m (p ∷ ps) [] t = absurd (false≢true t)
-  zipped-if m (p ∷ ps) (q ∷ qs) t = (eq-if _ _ (left _ _ t), masked-if _ _ _ (left _ _ (right _ _ t)), zipped-if (rest m) ps qs (right _ _ (right _ _ t)))
+  zipped-if m (p ∷ ps) (q ∷ qs) t = (eqb-true _ _ (left _ _ t), masked-if _ _ _ (left _ _ (right _ _ t)), zipped-if (rest m) ps qs (right _ _ (right _ _ t)))
 
   zipped-of : (m : ℕ) (ps qs : List Param) → Zipped form m ps qs → zippedOk form m ps qs ≡ true
   unfolding zippedOk Zipped
-  zipped-of m [] [] z = eq-of m 0 z
+  zipped-of m [] [] z = eq-eqb m 0 z
   zipped-of m [] (q ∷ qs) z = absurd z
   zipped-of m (p ∷ ps) [] z = absurd z
-  zipped-of m (p ∷ ps) (q ∷ qs) (a, b, c) = both _ _ (eq-of _ _ a) (both _ _ (masked-of _ _ _ b) (zipped-of (rest m) ps qs c))
+  zipped-of m (p ∷ ps) (q ∷ qs) (a, b, c) = both _ _ (eq-eqb _ _ a) (both _ _ (masked-of _ _ _ b) (zipped-of (rest m) ps qs c))
 
   -- the parts of a fix row's test
   fix-within : (ty c : ℕ) (q : Param) (qs : List Param) (r : ℕ) → form c ≡ fFun ntv (q ∷ qs) r → q .type ≡ ty
@@ -216,7 +217,7 @@ module _ (form : ℕ → Form) where
       let d₁ : q ≡ record { name = q .name; type = ty } = λ i. record { name = q .name; type = d i } in
       let d₂ = side-is s′ ntv (left _ _ p) in
       let d₃ = params-is ps′ qs (left _ _ (right _ _ p)) in
-      let d₄ = eq-if r′ r (right _ _ (right _ _ p)) in
+      let d₄ = eqb-true r′ r (right _ _ (right _ _ p)) in
       (q .name, qs, r, cc, cc)
 
   fix-if : (ty c : ℕ) (s : Side) (ps : List Param) (r : ℕ) → form c ≡ fFun s ps r → s ≡ ntv
@@ -224,7 +225,7 @@ module _ (form : ℕ → Form) where
       → (x : ℕ) × (ps : List Param) × (r : ℕ) × (form c ≡ fFun ntv (record { name = x; type = ty } ∷ ps) r) × (form ty ≡ fFun ntv ps r)
   fix-if ty c s ps r e d t =
       let (q, qs, e′, p) = more-if _ _ t in
-      fix-within ty c q qs r (cc) (eq-if _ _ (left _ _ p)) (right _ _ p)
+      fix-within ty c q qs r (cc) (eqb-true _ _ (left _ _ p)) (right _ _ p)
 
   pub rule-if : (Γ : Ctx) (h : Head) (ty : ℕ) (us : Tys (arity h)) → (ruleOk form Γ h ty us ≡ true) → Rule form Γ h ty us
   unfolding ruleOk Rule
@@ -232,20 +233,20 @@ module _ (form : ℕ → Form) where
   rule-if Γ (var x) ty ⟨⟩ t = given-is (Γ x) ty t
   rule-if Γ lambda ty (b ▹ ⟨⟩) t =
       let (s, ps, r, e, p) = fun-if _ _ t in
-      (ps, cc (side-is s ntv (left _ _ p), eq-if r b (right _ _ p)))
+      (ps, cc (side-is s ntv (left _ _ p), eqb-true r b (right _ _ p)))
   rule-if Γ (foreign w) ty ⟨⟩ t =
       let (s, ps, r, e, p) = fun-if _ _ t in
       (ps, r, cc (side-is s frn p))
   rule-if Γ (apply n) ty (c ▹ us) t =
       let (s, ps, r, e, p) = fun-if _ _ t in
-      (s, ps, cc (eq-if r ty (left _ _ p)), numbers-is _ _ (right _ _ p))
+      (s, ps, cc (eqb-true r ty (left _ _ p)), numbers-is _ _ (right _ _ p))
   rule-if Γ (future k) ty ⟨⟩ t = tt
-  rule-if Γ ite ty (c ▹ a ▹ b ▹ ⟨⟩) t = search (left, right, base-is, eq-if)
+  rule-if Γ ite ty (c ▹ a ▹ b ▹ ⟨⟩) t = search (left, right, base-is, eqb-true)
   rule-if Γ fix ty (c ▹ ⟨⟩) t = let (s, ps, r, e, p) = fun-if _ _ t in fix-if ty c s ps r e (side-is s ntv (left _ _ p)) (right _ _ p)
   rule-if Γ nil ty ⟨⟩ t = let (e, q, p) = list-if _ _ t in (e, q)
   rule-if Γ cons ty (a ▹ b ▹ ⟨⟩) t =
       let (e, q, p) = list-if _ _ (left _ _ t) in
-      (cc (eq-if e a p), eq-if b ty (right _ _ t))
+      (cc (eqb-true e a p), eqb-true b ty (right _ _ t))
   rule-if Γ isnil ty (c ▹ ⟨⟩) t =
       let (e, q, p) = list-if _ _ (right _ _ t) in
       (base-is Truth (form ty) (left _ _ t), (e, q))
@@ -253,7 +254,7 @@ module _ (form : ℕ → Form) where
       let (s, ps, r, e, p) = fun-if _ _ t in
       let (s′, qs, u, e₂, p₂) = fun-if _ _ p in
       let (el, e₃, p₃) = list-if _ _ (left _ _ (right _ _ p₂)) in
-      (s, ps, r, qs, u, e, cc (side-is s′ s (left _ _ p₂)), cc (eq-if el r p₃), zipped-if m ps qs (right _ _ (right _ _ p₂)))
+      (s, ps, r, qs, u, e, cc (side-is s′ s (left _ _ p₂)), cc (eqb-true el r p₃), zipped-if m ps qs (right _ _ (right _ _ p₂)))
   rule-if Γ (tuple n) ty us t = let (ts, e, p) = tuple-if _ _ t in e ∙ ap fTuple (numbers-is _ _ p)
   rule-if Γ (project i) ty (c ▹ ⟨⟩) t = let (ts, e, p) = tuple-if _ _ t in (ts, e, given-is _ _ p)
   rule-if Γ (lproject i) ty (c ▹ ⟨⟩) t =
@@ -261,7 +262,7 @@ module _ (form : ℕ → Form) where
       let (ts, q₂, p₂) = tuple-if _ _ p in
       let (r, q₃, p₃) = list-if _ _ p₂ in
       (e, ts, r, q, q₂, given-is _ _ p₃, q₃)
-  rule-if Γ (bind x) ty (a ▹ b ▹ ⟨⟩) t = eq-if b ty t
+  rule-if Γ (bind x) ty (a ▹ b ▹ ⟨⟩) t = eqb-true b ty t
 
   pub rule-of : (Γ : Ctx) (h : Head) (ty : ℕ) (us : Tys (arity h)) → Rule form Γ h ty us → ruleOk form Γ h ty us ≡ true
   unfolding ruleOk Rule
@@ -271,17 +272,17 @@ module _ (form : ℕ → Form) where
   rule-of Γ (foreign w) ty ⟨⟩ (ps, r, e) = fun-of _ _ _ _ _ e (side-same frn)
   rule-of Γ (apply n) ty (c ▹ us) (s, ps, e, q) = fun-of _ _ _ _ _ e (both _ _ (eq-same ty) (rw q (numbers-same (types ps))))
   rule-of Γ (future k) ty ⟨⟩ u = refl
-  rule-of Γ ite ty (c ▹ a ▹ b ▹ ⟨⟩) (e, p, q) = both _ _ (base-of _ _ e) (both _ _ (eq-of _ _ p) (eq-of _ _ q))
+  rule-of Γ ite ty (c ▹ a ▹ b ▹ ⟨⟩) (e, p, q) = both _ _ (base-of _ _ e) (both _ _ (eq-eqb _ _ p) (eq-eqb _ _ q))
   rule-of Γ fix ty (c ▹ ⟨⟩) (x, ps, r, e, q) = fun-of _ _ _ _ _ e (both _ _ (side-same ntv) (more-of _ _ _ _ refl (both _ _ (eq-same ty) (fun-of _ _ _ _ _ q (both _ _ (side-same ntv) (both _ _ (params-same ps) (eq-same r)))))))
   rule-of Γ nil ty ⟨⟩ (e, q) = list-of _ _ _ q refl
-  rule-of Γ cons ty (a ▹ b ▹ ⟨⟩) (e, q) = both _ _ (list-of _ _ _ e (eq-same a)) (eq-of _ _ q)
+  rule-of Γ cons ty (a ▹ b ▹ ⟨⟩) (e, q) = both _ _ (list-of _ _ _ e (eq-same a)) (eq-eqb _ _ q)
   rule-of Γ isnil ty (c ▹ ⟨⟩) (e, q) = both _ _ (base-of _ _ e) (list-of _ _ _ (q .1) refl)
   rule-of Γ (zip m) ty (c ▹ ⟨⟩) (s, ps, r, qs, u, e, e₂, e₃, z) =
       fun-of _ _ _ _ _ e (fun-of _ _ _ _ _ e₂ (both _ _ (side-same s) (both _ _ (list-of _ _ _ e₃ (eq-same r)) (zipped-of m ps qs z))))
   rule-of Γ (tuple n) ty us e = tuple-of _ _ _ e (numbers-same _)
   rule-of Γ (project i) ty (c ▹ ⟨⟩) (ts, e, q) = tuple-of _ _ _ e (given-of _ _ q)
   rule-of Γ (lproject i) ty (c ▹ ⟨⟩) (e, ts, r, q, q₂, q₃, q₄) = list-of _ _ _ q (tuple-of _ _ _ q₂ (list-of _ _ _ q₄ (given-of _ _ q₃)))
-  rule-of Γ (bind x) ty (a ▹ b ▹ ⟨⟩) e = eq-of _ _ e
+  rule-of Γ (bind x) ty (a ▹ b ▹ ⟨⟩) e = eq-eqb _ _ e
 
   mutual
     unfolding firstBad Typed rowOk

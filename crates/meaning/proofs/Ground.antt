@@ -5,25 +5,23 @@ use mathlib.Core.Bool.{Bool, true, false, false≢true}
 use mathlib.Core.List.{List, [], _∷_}
 use native.Mathlib.Omega.{arith}
 use lib.Dec.{ltb}
+use borrow.Author.Tests.{ltb-true}
 use Rattle.meaning.specs.Bytes.{_∧ᵇ_}
 use Rattle.meaning.specs.Types.{Side, Param, Form, fList, fTuple, fFun, every, groundForm, groundBelow, ground, member, empty, pick, find, _⹁_}
 use Rattle.meaning.specs.Terms.{str, file, truth, lit, var, lambda, foreign, apply, future, ite, fix, nil, cons, isnil, zip, tuple, project, lproject, bind, code, Tree, Forest, node, end, more, tyOf}
 use Rattle.meaning.specs.Typing.{list, tys, Rule, scope, Typed, TypedF}
 use Rattle.meaning.specs.Steps.{value, values}
-use Rattle.meaning.proofs.Tests.{both, left, right, lt-if}
+use Rattle.meaning.proofs.Tests.{both, left, right}
+use Rattle.meaning.specs.Entries.{replyKinds}
+use Rattle.meaning.proofs.Tables.{ground-elem, ground-parts, ground-no-function}
 use Rattle.meaning.proofs.Facts.{Fact, Every, Everys}
 use Rattle.meaning.proofs.Safety.{bare}
 
 -- the kinds of data, those that a reply may have
 abbrev pub Plain : Fact
-Plain h u = member (code h) (1 ∷ 2 ∷ 3 ∷ 4 ∷ 12 ∷ 13 ∷ 16 ∷ []) ≡ true
+Plain h u = member (code h) replyKinds ≡ true
 
 -- Groundness goes down ---------------------------------------------------------------------------------------------
-
-and-same : (b x y : Bool) → (b ≡ true → x ≡ y) → (b ∧ᵇ x) ≡ (b ∧ᵇ y)
-unfolding _∧ᵇ_
-and-same true x y h = h refl
-and-same false x y h = refl
 
 every-right : (p q : ℕ → Bool) (xs : List ℕ) → every (λ x. p x ∧ᵇ q x) xs ≡ true → every q xs ≡ true
 unfolding every
@@ -31,33 +29,12 @@ every-right p q [] e = refl
 every-right p q (x ∷ xs) e = both _ _ (right _ _ (left _ _ e)) (every-right p q xs (right _ _ e))
 
 module _ (form : ℕ → Form) where
-  -- any bound above the number gives the same
-  ground-bound : (a b t : ℕ) → t < a → t < b → groundBelow form a t ≡ groundBelow form b t
-  unfolding groundBelow
-  ground-bound zero b t h k = absurd (omega arith)
-  ground-bound (suc a) zero t h k = absurd (omega arith)
-  ground-bound (suc a) (suc b) t h k =
-      ap (λ q. groundForm q (form t)) (fun-ext λ p. and-same (ltb p t) _ _ (λ e. ground-bound a b p (omega (arith, lt-if p t e)) (omega (arith, lt-if p t e))))
-
-  pub ground-eq : (t : ℕ) → ground form t ≡ groundForm (λ p. ltb p t ∧ᵇ ground form p) (form t)
-  unfolding ground groundBelow
-  ground-eq t = ap (λ q. groundForm q (form t)) (fun-ext λ p. and-same (ltb p t) _ _ (λ e. ground-bound t (suc p) p (lt-if p t e) (omega arith)))
-
-  pub ground-elem : (t e : ℕ) → ground form t ≡ true → form t ≡ fList e → ground form e ≡ true
-  unfolding groundForm
-  ground-elem t e g q = right _ _ (rw q at (sym (ground-eq t) ∙ g))
-
-  pub ground-parts : (t : ℕ) (ts : List ℕ) → ground form t ≡ true → form t ≡ fTuple ts → every (ground form) ts ≡ true
-  unfolding groundForm
-  ground-parts t ts g q = every-right _ _ ts (rw q at (sym (ground-eq t) ∙ g))
-
-  no-fun : (t : ℕ) {s : Side} {ps : List Param} {r : ℕ} → form t ≡ fFun s ps r → ground form t ≡ true → false ≡ true
-  unfolding groundForm
-  no-fun t e g = rw e at (sym (ground-eq t) ∙ g)
+  tuple-ground : (t : ℕ) (ts : List ℕ) → ground form t ≡ true → form t ≡ fTuple ts → every (ground form) ts ≡ true
+  tuple-ground t ts g q = every-right _ _ ts (ground-parts form t ts q g)
 
   cons-ground : (u : ℕ) (f : Forest 2) → Rule form empty cons u (tys f) → ground form u ≡ true → every (ground form) (list (tys f)) ≡ true
   unfolding Rule tys list every
-  cons-ground u (more a (more b end)) (e, q) g = both _ _ (ground-elem u (tyOf a) g e) (both _ _ (rw q g) refl)
+  cons-ground u (more a (more b end)) (e, q) g = both _ _ (ground-elem form u (tyOf a) e g .1) (both _ _ (rw q g) refl)
 
   -- Their values -------------------------------------------------------------------------------------------------
 
@@ -70,8 +47,8 @@ module _ (form : ℕ → Form) where
     ground-plain (node (lit (truth true)) u end) g v d = (refl, tt)
     ground-plain (node (lit (truth false)) u end) g v d = (refl, tt)
     ground-plain (node (var x) u f) g v d = absurd (false≢true v)
-    ground-plain (node lambda u (more b end)) g v ((ps, e), _, _) = absurd (false≢true (no-fun u e g))
-    ground-plain (node (foreign w) u end) g v ((ps, r, e), _, _) = absurd (false≢true (no-fun u e g))
+    ground-plain (node lambda u (more b end)) g v ((ps, e), _, _) = absurd (ground-no-function form u _ _ _ e g)
+    ground-plain (node (foreign w) u end) g v ((ps, r, e), _, _) = absurd (ground-no-function form u _ _ _ e g)
     ground-plain (node (apply n) u f) g v d = absurd (false≢true v)
     ground-plain (node (future k) u f) g v d = absurd (false≢true v)
     ground-plain (node ite u f) g v d = absurd (false≢true v)
@@ -79,8 +56,8 @@ module _ (form : ℕ → Form) where
     ground-plain (node nil u end) g v d = (refl, tt)
     ground-plain (node cons u f) g v (r, _, d) = (refl, grounds-plain f (cons-ground u f r g) v d)
     ground-plain (node isnil u f) g v d = absurd (false≢true v)
-    ground-plain (node (zip m) u (more c end)) g v ((s, ps, r, qs, l, e₁, e₂, e₃, z), _, _) = absurd (false≢true (no-fun u e₂ g))
-    ground-plain (node (tuple n) u f) g v (e, _, d) = (refl, grounds-plain f (ground-parts u (list (tys f)) g e) v d)
+    ground-plain (node (zip m) u (more c end)) g v ((s, ps, r, qs, l, e₁, e₂, e₃, z), _, _) = absurd (ground-no-function form u _ _ _ e₂ g)
+    ground-plain (node (tuple n) u f) g v (e, _, d) = (refl, grounds-plain f (tuple-ground u (list (tys f)) g e) v d)
     ground-plain (node (project i) u f) g v d = absurd (false≢true v)
     ground-plain (node (lproject i) u f) g v d = absurd (false≢true v)
     ground-plain (node (bind x) u f) g v d = absurd (false≢true v)

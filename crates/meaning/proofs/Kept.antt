@@ -8,6 +8,7 @@ use mathlib.Core.Option.{Option, none, some}
 use native.Mathlib.Omega.{arith}
 use lib.Dec.{eqb}
 use lib.ListN.{getD}
+use borrow.Author.Tests.{lt-ltb, ltb-true}
 use Rattle.meaning.specs.Bytes.{_∧ᵇ_, within}
 use Rattle.meaning.specs.Types.{Param, Form, absent, base, fList, fTuple, fFun, params, elemOf, find, low, rest}
 use Rattle.meaning.specs.Terms.{truth, Head, lit, var, lambda, foreign, apply, future, ite, fix, nil, cons, isnil, zip, tuple, project, lproject, bind, arity, code, nOf, wordOf, none-used, kindFields, lastKind, raw, fits, rowFault, Tree, Forest, node, end, more, headOf, tyOf, is, Row, flat}
@@ -15,7 +16,8 @@ use Rattle.meaning.specs.Typing.{tys, scope}
 use Rattle.meaning.specs.Steps.{Sub, veil, hide, swap, hit, assign, put, puts, due, settle, settles, values, Call, Out, stay, go, nth, child, kid, become, ifStep, isnilStep, projectStep, ready, anyNil, kidsAt, lprojectStep, tie, fixStep, sendStep, zipCons, zipStep, applyStep, letStep, contract, Places, step}
 use Rattle.meaning.specs.Records.{version}
 use Rattle.meaning.specs.declared.Fault.the-variants.{Kind, Field, Number}
-use Rattle.meaning.proofs.Tests.{lt-if, lt-of, within-of, both, none-some}
+use Rattle.meaning.proofs.Tests.{within-of, both, none-some}
+use Rattle.meaning.proofs.Shapes.{legal}
 use Rattle.meaning.proofs.Facts.{Fact, Every, Everys, AllRows, every-rows, rows-left, rows-right, Due, Listed}
 use Rattle.meaning.proofs.Puts.{hit-is, due-is}
 use Rattle.meaning.proofs.Follows.{Follows, FollowsIn, root, inside, this, that, step-free}
@@ -139,7 +141,7 @@ module _ (P : Fact) where
           (λ _. (ok .zipCons n u r, ((ok .zipHead n u r, (kid-every 1 c p, kids-every 1 m args d)), ((r, (p, kids-every 2 m args d)), tt)))))
           tt
 
-      send-every : {n : ℕ} (u : ℕ) (c : Tree) (args : Forest n) → EveryOut k (sendStep form k u c args)
+      send-every : {n : ℕ} (u : ℕ) (c : Tree) (args : Forest n) → EveryOut k (sendStep k u c args)
       unfolding sendStep EveryOut New Every
       send-every u c args = cond-every k (values args) _ _ (λ p. (p, tt)) tt
 
@@ -224,16 +226,12 @@ listed-step form Φ k t c u w d e =
 
 -- Kinds, fields and type numbers in range --------------------------------------------------------------------------
 
--- a row that refusal 7 does not name
-abbrev pub legal : ℕ → Fact
-legal count h u = rowFault version count (raw (record { head = h; type = u })) ≡ none
-
 abbrev inRange : Head → Bool
 inRange h = fits (getD kindFields (code h) none-used) (raw (record { head = h; type = 0 }))
 
 legal-if : (count : ℕ) (h : Head) (u : ℕ) → legal count h u → (within 1 (lastKind version) (code h) ≡ true) × (inRange h ≡ true) × (u < count)
 unfolding rowFault raw fits
-legal-if count h u e = let (a, b, c) = all-passed _ _ _ e in (a, b, lt-if u count c)
+legal-if count h u e = let (a, b, c) = all-passed _ _ _ e in (a, b, ltb-true u count c)
   where
     all-passed : (a b c : Bool) → cond a (cond b (cond c none (some Number)) (some Field)) (some Kind) ≡ none → (a ≡ true) × (b ≡ true) × (c ≡ true)
     all-passed true true true e = (refl, refl, refl)
@@ -243,7 +241,7 @@ legal-if count h u e = let (a, b, c) = all-passed _ _ _ e in (a, b, lt-if u coun
 
 legal-of : (count : ℕ) (h : Head) (u : ℕ) → within 1 (lastKind version) (code h) ≡ true → inRange h ≡ true → u < count → legal count h u
 unfolding rowFault raw fits
-legal-of count h u a b c = rw (a, b, lt-of u count c) refl
+legal-of count h u a b c = rw (a, b, lt-ltb u count c) refl
 
 -- what the type table promises of the parts of a type
 pub record Parts (form : ℕ → Form) (count : ℕ) : Type 0 where

@@ -1,15 +1,14 @@
 -- Numbers, rows and tables against their bytes: what is read of what was written, and what is written of what was read. Assumes nothing.
 use Prim.Native.Nat.{ℕ, zero, suc, _+_, _*_, _/_, _%_, _-_, _≤_, _<_}
 use mathlib.Core.Path.{_≡_, refl, ap, sym, _∙_}
-use mathlib.Core.Bool.{Bool, true, false}
+use mathlib.Core.Bool.{true}
 use mathlib.Core.List.{List, [], _∷_, _++_, map, append-assoc}
 use native.Mathlib.Omega.{arith}
-use native.Mathlib.Nat.{add-zero, add-suc}
-use native.Mathlib.Decide.{decLt}
-use lib.ListN.{length, take, drop, getD, replicate, length-append, length-drop, length-replicate, take-append-drop, drop-of-length-le, List·getD-eq-default, List·getD-append}
-use lib.Seq.{drop-nil, take-nil, drop-cons, drop-drop, take-add, getD-drop, getD-take, getD-append-add, drop-at, take-all}
+use lib.ListN.{length, take, drop, getD, replicate, length-append, length-drop, length-replicate, take-append-drop, drop-of-length-le}
+use lib.Seq.{length-take-le, drop-cons, drop-drop, take-add, getD-drop, drop-at}
+use borrow.Author.Tests.{eqb-true}
 use Rattle.meaning.specs.Bytes.{zeros, number, spell, Layout, width, read, write, reads, writes, padded}
-use Rattle.meaning.proofs.Tests.{both, left, right, eq-if, eq-same}
+use Rattle.meaning.proofs.Tests.{both, left, right, eq-same}
 
 abbrev pub AllBytes : List ℕ → Type 0
 AllBytes s = (i : ℕ) → getD s i 0 < 256
@@ -62,12 +61,21 @@ padded-length n s h = rw (length-append, length-replicate) (omega arith)
 pub padded-zeros : (s : List ℕ) → zeros s ≡ true → s ≡ replicate (length s) 0
 unfolding zeros
 padded-zeros [] e = refl
-padded-zeros (b ∷ s) e = cc (eq-if b 0 (left _ _ e), padded-zeros s (right _ _ e))
+padded-zeros (b ∷ s) e = cc (eqb-true b 0 (left _ _ e), padded-zeros s (right _ _ e))
 
 pub zeros-replicate : (n : ℕ) → zeros (replicate n 0) ≡ true
 unfolding zeros
 zeros-replicate zero = refl
 zeros-replicate (suc n) = both _ _ (eq-same 0) (zeros-replicate n)
+
+-- bytes with zeros behind them, taken and padded again
+pub padded-back : (n j : ℕ) (s : List ℕ) → n + j ≤ length s → zeros (take j (drop n s)) ≡ true → padded (n + j) (take n s) ≡ take (n + j) s
+unfolding padded
+padded-back n j s h u =
+    let e : n + j - n ≡ j = omega arith in
+    let k : j ≤ length (drop n s) = omega (arith, length-drop n s) in
+    rw (length-take-le n s (omega arith), e, take-add n j s)
+    (ap (λ (t : List ℕ). take n s ++ t) (sym (padded-zeros (take j (drop n s)) u ∙ ap (λ (i : ℕ). replicate i 0) (length-take-le j (drop n s) k))))
 
 -- Numbers --------------------------------------------------------------------------------------------------------
 

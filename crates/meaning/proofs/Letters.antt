@@ -1,29 +1,31 @@
 -- Program files, replies and sent calls against their bytes, and that an accepted load makes a good state. Assumes nothing.
-use Prim.Native.Nat.{ℕ, zero, suc, _+_, _*_, _≤_, _<_}
+use Prim.Native.Nat.{ℕ, _+_, _*_, _≤_, _<_}
 use mathlib.Core.Path.{_≡_, refl, ap, sym, _∙_}
 use mathlib.Core.Bool.{Bool, true, false, not, false≢true}
 use mathlib.Core.List.{List, [], _∷_, _++_, map, append-assoc, append-nil}
-use mathlib.Core.Option.{Option, none, some}
+use mathlib.Core.Option.{none}
 use native.Mathlib.Omega.{arith}
-use lib.Dec.{eqb, leb}
+use lib.Dec.{eqb}
 use lib.ListN.{length, take, drop, getD, length-append, length-drop, length-map, take-append-drop}
 use lib.Seq.{drop-drop, drop-at, take-all}
-use Rattle.meaning.specs.Bytes.{_∧ᵇ_, within, Layout, width, read, write, reads, writes, fileHead, typeRow, termRow, replyHead, callHead, Limits, recordBytes}
-use Rattle.meaning.specs.Types.{formOf, empty}
-use Rattle.meaning.specs.Terms.{Tree, Row, flat, size, code, kindNo, raw, rowOf, treeOf}
+use borrow.Author.Tests.{eq-eqb, eqb-true, le-leb}
+use Rattle.meaning.specs.Bytes.{Layout, width, read, write, reads, writes, fileHead, typeRow, termRow, replyHead, callHead, Limits, recordBytes}
+use Rattle.meaning.specs.Types.{formOf, badType, empty}
+use Rattle.meaning.specs.Terms.{Tree, Row, flat, size, code, wordOf, raw, rowOf}
 use Rattle.meaning.specs.Typing.{Typed}
 use Rattle.meaning.specs.Steps.{Call}
 use Rattle.meaning.specs.Records.{version, rises, listed}
-use Rattle.meaning.specs.Entries.{LegalFile, fileNo, fileTypeCount, fileRowCount, fileTypes, fileRows, fileTree, noFuture, loadVerdict, loadedState, replyNo, replyNumber, replyCount, replyRows, replyHeadOk, letterOf}
-use Rattle.meaning.specs.declared.Verdict.{Verdict}
+use Rattle.meaning.specs.Entries.{replyTree, LegalFile, fileNo, fileTypeCount, fileRowCount, fileTypes, fileRows, fileTree, noFuture, loadVerdict, loadedState, replyNo, replyNumber, replyCount, replyRows, replyHeadOk, letterOf}
+use Rattle.meaning.specs.declared.Refusal.the-variants.{Typing}
 use Rattle.meaning.specs.declared.Verdict.the-variants.{Accepted}
-use Rattle.meaning.proofs.Tests.{both, left, right, eq-if, eq-of, eq-same, le-if, le-of, within-of}
-use Rattle.meaning.proofs.Checks.{typed-if}
-use Rattle.meaning.proofs.Facts.{Every, AllRows, Due, rows-every}
+use Rattle.meaning.proofs.Tests.{none-some, both, left, right, eq-same, within-of}
+use Rattle.meaning.proofs.Parse.{length-flat, tree-of-flat}
+use Rattle.meaning.proofs.Checks.{typed-if, typed-of}
+use Rattle.meaning.proofs.Facts.{Every, AllRows, Due, Listed, every-rows, rows-every}
 use Rattle.meaning.proofs.Layouts.{AllBytes, joins, bytes-append, bytes-drop, pow256, Fits, Each, AllFit, length-read, length-write, bytes-write, read-write, write-read, fields-from, length-reads, reads-fit, length-writes, bytes-writes, reads-writes, writes-reads, reads-wide}
-use Rattle.meaning.proofs.Shapes.{legal, rows-raw, shape-whole}
-use Rattle.meaning.proofs.Sound.{Good, none-fails}
-use Rattle.meaning.proofs.Loading.{accepted-legal}
+use Rattle.meaning.proofs.Shapes.{legal, future-code, rows-raw, shape-whole, whole-of}
+use Rattle.meaning.proofs.Sound.{Good, none-fails, all-pass, rows-fit, size-some}
+use Rattle.meaning.proofs.Loading.{accepted-legal, legal-verdict, refuse-pass}
 
 -- Program files --------------------------------------------------------------------------------------------------
 
@@ -98,26 +100,35 @@ module _ (ts rs : List (List ℕ)) (fit : FileFits ts rs) where
       }
 
 -- what is read is written
-pub file-back : (file : List ℕ) → Headed file → AllBytes file → fileOf (fileTypes file) (fileRows file) ≡ file
-unfolding fileOf fileNumbers fileTypes fileRows
-file-back file h bytes =
-    rw (length-reads typeRow n (drop (width fileHead) file), length-reads termRow k (drop p file), numbers (read fileHead file) (length-read fileHead file) (h .mark) (h .edition) (h .zero-byte), write-read fileHead file bytes (omega (arith, h .size)), writes-reads typeRow n (drop (width fileHead) file) (bytes-drop (width fileHead) file bytes) (omega (arith, h .size, length-drop (width fileHead) file)), writes-reads termRow k (drop p file) (bytes-drop p file bytes) (omega (arith, h .size, length-drop p file)), take-all (width termRow * k) (drop p file) (omega (arith, h .size, length-drop p file)))
-    (ap (λ (t : List ℕ). take (width fileHead) file ++ t) (joins (width fileHead) (width typeRow * n) file) ∙ take-append-drop (width fileHead) file)
-  where
-    n : ℕ
-    n = fileTypeCount file
+module _ (file : List ℕ) (h : Headed file) (bytes : AllBytes file) where
+  head-back : write fileHead (fileNumbers (length (fileTypes file)) (length (fileRows file))) ≡ take (width fileHead) file
+  unfolding fileNumbers fileTypes fileRows
+  head-back =
+      rw (length-reads typeRow (fileTypeCount file) (drop (width fileHead) file), length-reads termRow (fileRowCount file) (drop (width fileHead + width typeRow * fileTypeCount file) file))
+      (ap (write fileHead) (numbers (read fileHead file) (length-read fileHead file) (h .mark) (h .edition) (h .zero-byte)) ∙ write-read fileHead file bytes (omega (arith, h .size)))
+    where
+      numbers : (ns : List ℕ) → length ns ≡ 7 → take 3 ns ≡ 84 ∷ 67 ∷ 65 ∷ [] → getD ns 3 0 ≡ version → getD ns 4 0 ≡ 0
+          → 84 ∷ 67 ∷ 65 ∷ version ∷ 0 ∷ getD ns 5 0 ∷ getD ns 6 0 ∷ [] ≡ ns
+      numbers ns l e v z =
+          let f : drop 3 ns ≡ version ∷ 0 ∷ getD ns 5 0 ∷ getD ns 6 0 ∷ [] = rw (v, z) at (fields-from ns 3 4 l) in
+          rw (e, f) at (take-append-drop 3 ns)
 
-    k : ℕ
-    k = fileRowCount file
+  types-back : writes typeRow (fileTypes file) ≡ take (width typeRow * fileTypeCount file) (drop (width fileHead) file)
+  unfolding fileTypes
+  types-back = writes-reads typeRow (fileTypeCount file) (drop (width fileHead) file) (bytes-drop (width fileHead) file bytes) (omega (arith, h .size, length-drop (width fileHead) file))
 
-    p : ℕ
-    p = width fileHead + width typeRow * fileTypeCount file
+  rows-back : writes termRow (fileRows file) ≡ drop (width fileHead + width typeRow * fileTypeCount file) file
+  unfolding fileRows
+  rows-back =
+      let e = length-drop (width fileHead + width typeRow * fileTypeCount file) file in
+      writes-reads termRow (fileRowCount file) (drop (width fileHead + width typeRow * fileTypeCount file) file) (bytes-drop (width fileHead + width typeRow * fileTypeCount file) file bytes) (omega (arith, h .size, e))
+      ∙ take-all (width termRow * fileRowCount file) (drop (width fileHead + width typeRow * fileTypeCount file) file) (omega (arith, h .size, e))
 
-    numbers : (ns : List ℕ) → length ns ≡ 7 → take 3 ns ≡ 84 ∷ 67 ∷ 65 ∷ [] → getD ns 3 0 ≡ version → getD ns 4 0 ≡ 0
-        → 84 ∷ 67 ∷ 65 ∷ version ∷ 0 ∷ getD ns 5 0 ∷ getD ns 6 0 ∷ [] ≡ ns
-    numbers ns l e v z =
-        let f : drop 3 ns ≡ version ∷ 0 ∷ getD ns 5 0 ∷ getD ns 6 0 ∷ [] = rw (v, z) at (fields-from ns 3 4 l) in
-        rw (e, f) at (take-append-drop 3 ns)
+  pub file-back : fileOf (fileTypes file) (fileRows file) ≡ file
+  unfolding fileOf
+  file-back =
+      rw (head-back, types-back, rows-back)
+      (ap (λ (t : List ℕ). take (width fileHead) file ++ t) (joins (width fileHead) (width typeRow * fileTypeCount file) file) ∙ take-append-drop (width fileHead) file)
 
 -- A header and the rows behind it -------------------------------------------------------------------------------
 
@@ -185,17 +196,21 @@ module _ (k : ℕ) (rs : List (List ℕ)) (fit : ReplyFits k rs) where
   reply-headed m h j =
       let e : length (replyOf k rs) ≡ width replyHead + width termRow * length rs = sheet-length replyHead termRow (k ∷ length rs ∷ 0 ∷ []) rs in
       rw reply-head
-      (both _ _ (le-of (width replyHead) (length (replyOf k rs)) (omega arith))
+      (both _ _ (le-leb (width replyHead) (length (replyOf k rs)) (omega arith))
       (both _ _ (within-of 1 (m .replyRows) (length rs) h j)
-      (both _ _ (eq-same 0) (eq-of (length (replyOf k rs)) (width replyHead + width termRow * length rs) e))))
+      (both _ _ (eq-same 0) (eq-eqb (length (replyOf k rs)) (width replyHead + width termRow * length rs) e))))
+
+pub reply-tree : (k : ℕ) (v : Tree) → ReplyFits k (map raw (flat v)) → replyTree (replyOf k (map raw (flat v))) ≡ v
+unfolding replyTree
+reply-tree k v fit = rw (reply-rows k (map raw (flat v)) fit, rows-raw (flat v)) (tree-of-flat v)
 
 pub reply-back : (m : Limits) (reply : List ℕ) → replyHeadOk m reply ≡ true → AllBytes reply → replyOf (replyNumber reply) (replyRows reply) ≡ reply
 unfolding replyOf replyHeadOk replyRows
 reply-back m reply ok bytes =
     let e = right _ _ (right _ _ ok) in
     rw (length-reads termRow (replyCount reply) (drop (width replyHead) reply))
-    (ap (λ (ns : List ℕ). sheet replyHead termRow ns (reads termRow (replyCount reply) (drop (width replyHead) reply))) (numbers (read replyHead reply) (length-read replyHead reply) (eq-if (replyNo 2 reply) 0 (left _ _ e)))
-    ∙ sheet-back replyHead termRow reply (replyCount reply) bytes (eq-if (length reply) _ (right _ _ e)))
+    (ap (λ (ns : List ℕ). sheet replyHead termRow ns (reads termRow (replyCount reply) (drop (width replyHead) reply))) (numbers (read replyHead reply) (length-read replyHead reply) (eqb-true (replyNo 2 reply) 0 (left _ _ e)))
+    ∙ sheet-back replyHead termRow reply (replyCount reply) bytes (eqb-true (length reply) _ (right _ _ e)))
   where
     numbers : (ns : List ℕ) → length ns ≡ 3 → getD ns 2 0 ≡ 0 → getD ns 0 0 ∷ getD ns 1 0 ∷ 0 ∷ [] ≡ ns
     numbers ns h z = rw z at (sym (fields-from ns 0 3 h))
@@ -299,3 +314,70 @@ pub loaded-good : (m : Limits) (file : List ℕ) (room : ℕ) → loadVerdict m 
 loaded-good m file room e bytes h =
     let (_, l, k) = accepted-legal m file room e in
     legal-good m file l (typed-if (formOf (fileTypes file)) empty (fileTree file) k) bytes h
+
+-- a program: types and a term without futures that the board has room for, each row in range and typed
+pub record Program (m : Limits) (ts : List (List ℕ)) (t : Tree) : Type 0 where
+  pub typesSome : 1 ≤ length ts
+  pub typesMany : length ts ≤ m .types
+  pub typesWide : AllFit typeRow ts
+  pub typesPass : badType version ts ≡ none
+  pub rowsMany : size t ≤ m .programRows
+  pub legalRows : Every (legal (length ts)) t
+  pub calm : Listed (listed []) t
+  pub typed : Typed (formOf ts) empty t
+
+calm-rows : (l : List Row) → AllRows (Due (listed [])) l → Each (λ r. noFuture r ≡ true) (map raw l)
+unfolding Each AllRows noFuture raw listed
+calm-rows [] d = tt
+calm-rows (r ∷ l) (e, d) = (calm (eqb (code (r .head)) 9) refl, calm-rows l d)
+  where
+    calm : (b : Bool) → eqb (code (r .head)) 9 ≡ b → not b ≡ true
+    calm true q = absurd (none-some (r .type) (e (wordOf (r .head)) (future-code (r .head) (eqb-true _ _ q))))
+    calm false q = refl
+
+-- each program has a file, which is accepted and holds it
+module _ (m : Limits) (ts : List (List ℕ)) (t : Tree) (typesFew : m .types ≤ 65535) (rowsFew : m .programRows ≤ 65535) (program : Program m ts t) where
+  row-total : length (map raw (flat t)) ≡ size t
+  row-total = length-map (flat t) raw ∙ length-flat t
+
+  program-fits : FileFits ts (map raw (flat t))
+  program-fits =
+      record {
+        types = program .typesWide;
+        rows = rows-fit (length ts) (flat t) (omega (arith, program .typesMany)) (every-rows _ t (program .legalRows));
+        typesMany = omega (arith, program .typesMany);
+        rowsMany = omega (arith, program .rowsMany, row-total);
+      }
+
+  pub program-types : fileTypes (fileOf ts (map raw (flat t))) ≡ ts
+  program-types = file-types ts (map raw (flat t)) program-fits
+
+  pub program-tree : fileTree (fileOf ts (map raw (flat t))) ≡ t
+  unfolding fileTree
+  program-tree = rw (file-rows ts (map raw (flat t)) program-fits, rows-raw (flat t)) (tree-of-flat t)
+
+  pub program-legal : LegalFile m (fileOf ts (map raw (flat t)))
+  program-legal =
+      let h = file-headed ts (map raw (flat t)) program-fits in
+      let n = file-type-count ts (map raw (flat t)) program-fits in
+      let k = file-row-count ts (map raw (flat t)) program-fits in
+      let rs = file-rows ts (map raw (flat t)) program-fits in
+      record {
+        long = omega (arith, h .size);
+        mark = h .mark;
+        edition = h .edition;
+        zero-byte = h .zero-byte;
+        types-some = omega (arith, n, program .typesSome);
+        types-many = omega (arith, n, program .typesMany);
+        rows-some = omega (arith, k, row-total, size-some t);
+        rows-many = omega (arith, k, row-total, program .rowsMany);
+        size = h .size;
+        types-good = rw program-types (program .typesPass);
+        one-tree = rw (n, rs) (whole-of (length ts) t (program .legalRows));
+        no-future = rw rs (all-pass noFuture _ (calm-rows (flat t) (every-rows _ t (program .calm))));
+      }
+
+  pub program-accepted : loadVerdict m (fileOf ts (map raw (flat t))) (recordBytes m) ≡ Accepted
+  program-accepted =
+      legal-verdict m _ program-legal
+      ∙ refuse-pass _ Typing Accepted (rw (program-types, program-tree) (typed-of (formOf ts) empty t (program .typed)))

@@ -25,3 +25,5 @@ pub mod Stays
 pub mod Letters
 pub mod Entered
 pub mod Histories
+pub mod Bench
+pub mod Reports

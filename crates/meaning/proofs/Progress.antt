@@ -9,7 +9,7 @@ use Rattle.meaning.specs.Bytes.{_∧ᵇ_}
 use Rattle.meaning.specs.Types.{Str, File, Truth, Side, ntv, frn, Param, Form, absent, base, fList, fTuple, fFun, params, types, find, member, empty, pick, _⹁_, place, low, rest}
 use Rattle.meaning.specs.Terms.{str, file, truth, Head, lit, var, lambda, foreign, apply, future, ite, fix, nil, cons, isnil, zip, tuple, project, lproject, bind, arity, code, nOf, wordOf, headFrom, Tree, Forest, node, end, more, headOf, tyOf, is}
 use Rattle.meaning.specs.Typing.{list, tys, litBase, firstIs, belowOk, Masked, Zipped, Rule, scope, Typed, TypedF}
-use Rattle.meaning.specs.Steps.{_∨ᵇ_, assign, put, value, values, Call, Out, stay, go, nth, kid, become, ifStep, isnilStep, projectStep, isList, ready, anyNil, lprojectStep, tie, fixStep, sendStep, zipCons, zipStep, applyStep, letStep, contract, Places, nowhere, everywhere, first, unless, behind, unready, applyLooks, looks, Outs, stays, goes, orElse, wrap, tailGoes, headGoes, visit, step, steps, Entry, or, awaited, awaitedIn}
+use Rattle.meaning.specs.Steps.{_∨ᵇ_, assign, put, value, values, Call, Out, stay, go, nth, kid, become, ifStep, isnilStep, projectStep, isList, ready, anyNil, lprojectStep, tie, fixStep, sendStep, zipCons, zipStep, applyStep, letStep, contract, Places, nowhere, everywhere, first, unless, behind, unready, applyLooks, looks, Outs, stays, goes, orElse, wrap, tailGoes, headGoes, visit, step, steps, Entry, earlier, awaited, awaitedIn}
 use Rattle.meaning.proofs.Tests.{both, left, right, or-l, or-r, none-some}
 use Rattle.meaning.proofs.Facts.{Every, Everys, Due, Listed}
 use Rattle.meaning.proofs.Views.{head-is}
@@ -85,8 +85,8 @@ unfolding found
 found-is none e = absurd (false≢true e)
 found-is (some x) e = (x, refl)
 
-found-or : (a b : Option Entry) → found (or a b) ≡ (found a ∨ᵇ found b)
-unfolding found or _∨ᵇ_
+found-or : (a b : Option Entry) → found (earlier a b) ≡ (found a ∨ᵇ found b)
+unfolding found earlier _∨ᵇ_
 found-or none b = refl
 found-or (some e) b = refl
 
@@ -254,7 +254,7 @@ module _ (form : ℕ → Form) where
       let d : qs ≡ qs′ = cc in
       parts-ready (nOf (headOf c)) ps qs′ args ka (l ∙ ap types d) z g
 
-  send-moves : {n : ℕ} (k u : ℕ) (c : Tree) (args : Forest n) → values args ≡ true → moved (sendStep form k u c args) ≡ true
+  send-moves : {n : ℕ} (k u : ℕ) (c : Tree) (args : Forest n) → values args ≡ true → moved (sendStep k u c args) ≡ true
   unfolding sendStep moved
   send-moves k u c args e = rw e refl
 
@@ -264,7 +264,7 @@ module _ (form : ℕ → Form) where
     where
       by-kind : (p q r : Bool) → is 6 c ≡ p → is 7 c ≡ q → is 15 c ≡ r → Typed form empty (node (apply n) u (more c args))
           → valuesAt (cond p nowhere (cond q (behind everywhere) (cond r (behind (unready (nOf (headOf c)) args)) first))) (more c args) ≡ true
-          → moved (cond p (go none (put form (assign (params (form (tyOf c))) args) (kid 1 c))) (cond q (sendStep form k u c args) (cond r (zipStep form u (nOf (headOf c)) c args) stay))) ≡ true
+          → moved (cond p (go none (put form (assign (params (form (tyOf c))) args) (kid 1 c))) (cond q (sendStep k u c args) (cond r (zipStep form u (nOf (headOf c)) c args) stay))) ≡ true
       by-kind true q r a b d t g = refl
       by-kind false true r a b d t g = send-moves k u c args (all-values args (right _ _ g))
       by-kind false false true a b d t g = zip-moves u (nOf (headOf c)) c args (zip-ready u c args d t (right _ _ g))
@@ -394,8 +394,8 @@ by-kind Φ h u o e a k true p q = let d : record { number = wordOf h; type = u }
 by-kind Φ h u o e a k false p q = k q
 
 first-found : (Φ : ℕ → Option ℕ) (e : Entry) (b : Bool) (o p : Option Entry) → (o ≡ some e → Φ (e .number) ≡ some (e .type)) → (p ≡ some e → Φ (e .number) ≡ some (e .type))
-    → or (cond b o none) p ≡ some e → Φ (e .number) ≡ some (e .type)
-unfolding or
+    → earlier (cond b o none) p ≡ some e → Φ (e .number) ≡ some (e .type)
+unfolding earlier
 first-found Φ e true none p h k q = k q
 first-found Φ e true (some x) p h k q = h q
 first-found Φ e false o p h k q = k q

@@ -5,12 +5,13 @@ use mathlib.Core.Bool.{Bool, true, false, cond}
 use mathlib.Core.List.{List}
 use mathlib.Core.Option.{Option, none, some}
 use lib.Dec.{eqb}
+use borrow.Author.Tests.{eqb-true}
 use Rattle.meaning.specs.Bytes.{_∧ᵇ_}
 use Rattle.meaning.specs.Types.{Param, Form, find, Ctx, empty, pick, _⹁_}
 use Rattle.meaning.specs.Terms.{Head, lit, var, lambda, foreign, apply, future, ite, fix, nil, cons, isnil, zip, tuple, project, lproject, bind, arity, code, wordOf, headFrom, Tree, Forest, node, end, more, headOf, tyOf, is}
 use Rattle.meaning.specs.Typing.{Tys, ⟨⟩, _▹_, tys, firstIs, belowOk, Rule, scope, Typed, TypedF}
 use Rattle.meaning.specs.Steps.{Sub, veil, hide, swap, hit, put, puts, due, settle, settles}
-use Rattle.meaning.proofs.Tests.{left, right, eq-if, none-some}
+use Rattle.meaning.proofs.Tests.{left, right, none-some}
 use Rattle.meaning.proofs.Facts.{Every, Everys, Due, Listed}
 use Rattle.meaning.proofs.Views.{head-is}
 
@@ -29,7 +30,7 @@ unfolding due headFrom
 due-is k v h o e = by-kind (eqb (code h) 9 ∧ᵇ eqb (wordOf h) k) refl e
   where
     by-kind : (b : Bool) → (eqb (code h) 9 ∧ᵇ eqb (wordOf h) k) ≡ b → cond b (some v) none ≡ some o → (h ≡ future k) × (v ≡ o)
-    by-kind true p e = (cc (head-is 9 h (left _ _ p), eq-if (wordOf h) k (right _ _ p)), cc)
+    by-kind true p e = (cc (head-is 9 h (left _ _ p), eqb-true (wordOf h) k (right _ _ p)), cc)
     by-kind false p e = absurd (none-some o e)
 
 -- a written function stays where it stands

@@ -185,7 +185,7 @@ module _ (form : ℕ → Form) where
       (((cc, refl), refl, (((s′, ps, cc, hes), refl, (kz, hs)), (((s, qs, e, cc), refl, (kc, ts)), tt))), refl)))
       (λ _. tt)
 
-  send-keeps : {n : ℕ} (k u : ℕ) (c : Tree) (args : Forest n) → Keeps u (sendStep form k u c args)
+  send-keeps : {n : ℕ} (k u : ℕ) (c : Tree) (args : Forest n) → Keeps u (sendStep k u c args)
   unfolding sendStep Keeps Typed Rule belowOk code tys tyOf
   send-keeps k u c args = cond-keeps u (values args) _ _ (λ _. ((tt, refl, tt), refl)) (λ _. tt)
 

@@ -2,25 +2,25 @@
 -- row at which no tree can go on. Assumes nothing.
 use Prim.Native.Nat.{ℕ, zero, suc, _+_, _≤_, _<_}
 use mathlib.Core.Path.{_≡_, refl, ap, sym, _∙_, subst}
-use mathlib.Core.Bool.{Bool, true, false, cond, false≢true}
+use mathlib.Core.Bool.{Bool, true, false, cond}
 use mathlib.Core.List.{List, [], _∷_, _++_, map, append-assoc, append-nil}
 use mathlib.Core.Logic.{_⊎_, inl, inr}
 use mathlib.Core.Option.{Option, none, some}
 use native.Mathlib.Omega.{arith}
 use native.Mathlib.Decide.{ℕ-discrete}
-use lib.Dec.{eqb, leb, ltb}
-use lib.ListN.{length, take, drop, getD, length-map}
+use lib.ListN.{length, take, getD, length-map}
 use lib.Seq.{take-length}
+use borrow.Author.Tests.{lt-ltb, ltb-true}
 use Rattle.meaning.specs.Bytes.{_∧ᵇ_, within}
 use Rattle.meaning.specs.Terms.{str, file, truth, Head, lit, var, lambda, foreign, apply, future, ite, fix, nil, cons, isnil, zip, tuple, project, lproject, bind, arity, Tree, Forest, node, end, more, Row, flat, flats, size, sizes, code, nOf, wordOf, headFrom, Fields, none-used, kindFields, lastKind, kindNo, nNo, typeNo, wordNo, raw, rowOf, fits, rowFault, unless-bad, shapeFrom, shape, kids, trees, top, treeOf}
 use Rattle.meaning.specs.Records.{version}
 use Rattle.meaning.specs.declared.Fault.{Fault}
-use Rattle.meaning.specs.declared.Fault.the-variants.{Kind, Field, Number, Behind, Unfinished}
+use Rattle.meaning.specs.declared.Fault.the-variants.{Behind, Unfinished}
 use Rattle.meaning.specs.declared.Shape.{Shape}
 use Rattle.meaning.specs.declared.Shape.the-variants.{Whole, Bad}
-use Rattle.meaning.proofs.Tests.{both, left, right, lt-if, lt-of, within-if, within-of, none-some}
+use Rattle.meaning.proofs.Tests.{left, right, within-if, within-of, none-some}
 use Rattle.meaning.proofs.Parse.{sizes-split, kids-rows, length-flat, flat-inj}
-use Rattle.meaning.proofs.Facts.{Fact, Every, Everys, AllRows, every-rows, rows-every, rows-left, rows-right}
+use Rattle.meaning.proofs.Facts.{Fact, Every, Everys, AllRows, rows-every}
 use Rattle.meaning.proofs.Layouts.{Each, Wide}
 
 -- One row --------------------------------------------------------------------------------------------------------
@@ -85,12 +85,12 @@ in-range edition count r e =
     let (kl, kh) = within-if 1 (lastKind edition) (kindNo r) k in
     let (nl, nh) = within-if _ _ (nNo r) (left _ _ f) in
     let (wl, wh) = within-if _ _ (wordNo r) (right _ _ f) in
-    record { kindLow = kl; kindHigh = kh; nFrom = nl; nTo = nh; wordFrom = wl; wordTo = wh; typeBelow = lt-if (typeNo r) count t }
+    record { kindLow = kl; kindHigh = kh; nFrom = nl; nTo = nh; wordFrom = wl; wordTo = wh; typeBelow = ltb-true (typeNo r) count t }
 
 pub range-in : (edition count : ℕ) (r : List ℕ) → InRange edition count r → rowFault edition count r ≡ none
 unfolding rowFault fits _∧ᵇ_
 range-in edition count r g =
-    rw (within-of 1 (lastKind edition) (kindNo r) (g .kindLow) (g .kindHigh), within-of _ _ (nNo r) (g .nFrom) (g .nTo), within-of _ _ (wordNo r) (g .wordFrom) (g .wordTo), lt-of (typeNo r) count (g .typeBelow)) refl
+    rw (within-of 1 (lastKind edition) (kindNo r) (g .kindLow) (g .kindHigh), within-of _ _ (nNo r) (g .nFrom) (g .nTo), within-of _ _ (wordNo r) (g .wordFrom) (g .wordTo), lt-ltb (typeNo r) count (g .typeBelow)) refl
 
 pub last-kind : (edition : ℕ) → lastKind edition ≤ 19
 unfolding lastKind
@@ -99,13 +99,14 @@ last-kind (suc zero) = omega arith
 last-kind (suc (suc e)) = omega arith
 
 -- a fact of each number below n, by its cases
-abbrev pub Below : (ℕ → Type 0) → ℕ → Type 0
-Below P zero = Unit {0}
-Below P (suc n) = Below P n × P n
+infixl 5 _▸_
+pub data Below (P : ℕ → Type 0) : ℕ → Type 0 where
+  start : Below P zero
+  _▸_ : {n : ℕ} → Below P n → P n → Below P (suc n)
 
 pub below-at : (P : ℕ → Type 0) (n : ℕ) → Below P n → (k : ℕ) → k < n → P k
-below-at P zero b k h = absurd (omega arith)
-below-at P (suc n) (b, p) k h = elim (ℕ-discrete k n) [ yes e ↦ subst P (sym e) p | no e ↦ below-at P n b k (omega arith) ]
+below-at P zero start k h = absurd (omega arith)
+below-at P (suc n) (b ▸ p) k h = elim (ℕ-discrete k n) [ yes e ↦ subst P (sym e) p | no e ↦ below-at P n b k (omega arith) ]
 
 -- numbers in range are those of the head that they make
 record Same (k n w : ℕ) : Type 0 where
@@ -124,7 +125,28 @@ Back k = (n w : ℕ) → 1 ≤ k → Used (getD kindFields k none-used) n w → 
 
 back-at : Below Back 20
 unfolding headFrom code nOf wordOf
-back-at = ((((((((((((((((((((tt, λ n w h f. absurd (omega arith)), λ n w h f. record { kind = refl; count = omega arith; word = omega arith }), λ n w h f. record { kind = refl; count = omega arith; word = omega arith }), λ n w h f. record { kind = refl; count = omega arith; word = omega arith }), λ n w h f. record { kind = refl; count = omega arith; word = omega arith }), λ n w h f. record { kind = refl; count = omega arith; word = omega arith }), λ n w h f. record { kind = refl; count = omega arith; word = omega arith }), λ n w h f. record { kind = refl; count = omega arith; word = omega arith }), λ n w h f. record { kind = refl; count = omega arith; word = omega arith }), λ n w h f. record { kind = refl; count = omega arith; word = omega arith }), λ n w h f. record { kind = refl; count = omega arith; word = omega arith }), λ n w h f. record { kind = refl; count = omega arith; word = omega arith }), λ n w h f. record { kind = refl; count = omega arith; word = omega arith }), λ n w h f. record { kind = refl; count = omega arith; word = omega arith }), λ n w h f. record { kind = refl; count = omega arith; word = omega arith }), λ n w h f. record { kind = refl; count = omega arith; word = omega arith }), λ n w h f. record { kind = refl; count = omega arith; word = omega arith }), λ n w h f. record { kind = refl; count = omega arith; word = omega arith }), λ n w h f. record { kind = refl; count = omega arith; word = omega arith }), λ n w h f. record { kind = refl; count = omega arith; word = omega arith })
+back-at =
+    start
+    ▸ (λ n w h f. absurd (omega arith))
+    ▸ (λ n w h f. record { kind = refl; count = omega arith; word = omega arith })
+    ▸ (λ n w h f. record { kind = refl; count = omega arith; word = omega arith })
+    ▸ (λ n w h f. record { kind = refl; count = omega arith; word = omega arith })
+    ▸ (λ n w h f. record { kind = refl; count = omega arith; word = omega arith })
+    ▸ (λ n w h f. record { kind = refl; count = omega arith; word = omega arith })
+    ▸ (λ n w h f. record { kind = refl; count = omega arith; word = omega arith })
+    ▸ (λ n w h f. record { kind = refl; count = omega arith; word = omega arith })
+    ▸ (λ n w h f. record { kind = refl; count = omega arith; word = omega arith })
+    ▸ (λ n w h f. record { kind = refl; count = omega arith; word = omega arith })
+    ▸ (λ n w h f. record { kind = refl; count = omega arith; word = omega arith })
+    ▸ (λ n w h f. record { kind = refl; count = omega arith; word = omega arith })
+    ▸ (λ n w h f. record { kind = refl; count = omega arith; word = omega arith })
+    ▸ (λ n w h f. record { kind = refl; count = omega arith; word = omega arith })
+    ▸ (λ n w h f. record { kind = refl; count = omega arith; word = omega arith })
+    ▸ (λ n w h f. record { kind = refl; count = omega arith; word = omega arith })
+    ▸ (λ n w h f. record { kind = refl; count = omega arith; word = omega arith })
+    ▸ (λ n w h f. record { kind = refl; count = omega arith; word = omega arith })
+    ▸ (λ n w h f. record { kind = refl; count = omega arith; word = omega arith })
+    ▸ (λ n w h f. record { kind = refl; count = omega arith; word = omega arith })
 
 -- a row without fault is the numbers of the row that it makes
 pub raw-row : (edition count : ℕ) (r : List ℕ) → rowFault edition count r ≡ none → length r ≡ 4 → raw (rowOf r) ≡ r

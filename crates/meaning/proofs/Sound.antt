@@ -1,5 +1,5 @@
 -- A sound record is the bytes of exactly one state, and a state's bytes are sound if the state is good. Assumes nothing.
-use Prim.Native.Nat.{ℕ, zero, suc, _+_, _*_, _-_, _≤_, _<_}
+use Prim.Native.Nat.{ℕ, suc, _+_, _*_, _-_, _≤_, _<_}
 use mathlib.Core.Path.{_≡_, refl, ap, sym, _∙_}
 use mathlib.Core.Bool.{Bool, true, false, cond, false≢true}
 use mathlib.Core.List.{List, [], _∷_, _++_, map, append-assoc, append-nil}
@@ -7,24 +7,25 @@ use mathlib.Core.Option.{Option, none, some}
 use native.Mathlib.Omega.{arith}
 use native.Mathlib.Nat.{mul-sub, mul-le-mul-left}
 use native.Mathlib.Decide.{decLt}
-use lib.Dec.{eqb, leb, ltb}
+use lib.Dec.{eqb, leb}
 use lib.ListN.{length, take, drop, getD, replicate, length-append, length-replicate, length-drop, length-map, take-append-drop}
-use lib.Seq.{drop-drop, drop-at, take-at, take-add, take-all, length-take-le}
-use Rattle.meaning.specs.Bytes.{_∧ᵇ_, within, zeros, Layout, width, read, write, reads, writes, padded, typeRow, termRow, recordHead, entryRow, Limits, arm, typesAt, callsAt, rowsAt, recordBytes}
-use Rattle.meaning.specs.Types.{Form, absent, formOf, ground, badType, sameNumbers, empty}
-use Rattle.meaning.specs.Terms.{Head, future, Tree, node, headOf, tyOf, Row, flat, size, code, nOf, wordOf, none-used, kindFields, kindNo, typeNo, wordNo, raw, rowOf, shape, treeOf}
+use lib.Seq.{drop-drop, drop-at, take-at, take-all}
+use borrow.Author.Tests.{eq-eqb, eqb-true, le-leb, leb-true, lt-ltb, ltb-true}
+use Rattle.meaning.specs.Bytes.{_∧ᵇ_, Layout, width, read, write, reads, writes, padded, typeRow, termRow, recordHead, entryRow, Limits, arm, typesAt, callsAt, rowsAt, recordBytes}
+use Rattle.meaning.specs.Types.{Form, formOf, ground, badType, empty}
+use Rattle.meaning.specs.Terms.{Head, Tree, node, headOf, tyOf, Row, flat, size, code, wordOf, Fields, none-used, kindFields, raw, rowOf, shape, treeOf}
 use Rattle.meaning.specs.Typing.{given, Typed, firstBad}
 use Rattle.meaning.specs.Steps.{Entry}
 use Rattle.meaning.specs.Records.{State, version, recordMark, rawEntry, headNumbers, recordOf, headNo, typeCount, rowCount, openCount, nextNumber, programType, typesIn, entriesIn, rowsIn, entryOf, stateOf, firstNot, nothing, isWhole, headSound, unused, spaceSound, typesSound, shapeSound, termSound, rises, entrySound, callsSound, listed, futureListed, futuresSound, programSound, sound}
 use Rattle.meaning.specs.declared.Shape.{Shape}
 use Rattle.meaning.specs.declared.Shape.the-variants.{Whole, Bad}
-use Rattle.meaning.proofs.Tests.{both, left, right, eq-if, eq-of, eq-same, none-some, le-if, le-of, lt-if, lt-of, within-if, within-of, numbers-is, numbers-same}
+use Rattle.meaning.proofs.Tests.{both, left, right, eq-same, none-some, within-if, within-of, numbers-is, numbers-same}
 use Rattle.meaning.proofs.Parse.{length-flat, tree-of-flat}
 use Rattle.meaning.proofs.Checks.{given-is, given-of, typed-if, typed-of}
 use Rattle.meaning.proofs.Facts.{Every, AllRows, Due, Listed, every-rows, rows-every}
-use Rattle.meaning.proofs.Layouts.{AllBytes, joins, bytes-append, bytes-drop, bytes-padded, padded-length, padded-zeros, zeros-replicate, pow256, Fits, Each, each-map, AllFit, Wide, length-read, length-write, bytes-write, read-write, write-read, length-reads, reads-fit, length-writes, bytes-writes, fields-from, reads-writes, writes-reads, reads-wide}
-use Rattle.meaning.proofs.Shapes.{passes, legal, future-code, rows-raw, in-range, raw-row, last-kind, Below, below-at, Clear, accepted, shape-whole, whole-of}
-use Rattle.meaning.proofs.Tables.{Promises, promised, ground-known}
+use Rattle.meaning.proofs.Layouts.{AllBytes, joins, bytes-append, bytes-drop, bytes-padded, padded-length, padded-back, zeros-replicate, pow256, Fits, Each, each-at, each-map, AllFit, Wide, length-read, length-write, bytes-write, read-write, write-read, length-reads, reads-fit, length-writes, bytes-writes, fields-from, reads-writes, writes-reads, reads-wide}
+use Rattle.meaning.proofs.Shapes.{passes, legal, future-code, rows-raw, in-range, last-kind, shape-whole, whole-of}
+use Rattle.meaning.proofs.Tables.{promised, ground-known}
 
 -- A part of a record: rows in front, zeros behind ------------------------------------------------------------------
 
@@ -50,21 +51,12 @@ module _ (l : Layout) (room : ℕ) where
   -- what was read, written again
   part-back : (b : List ℕ) (p n : ℕ) → AllBytes b → p + width l * room ≤ length b → n ≤ room → unused l p n room b ≡ true
       → padded (width l * room) (writes l (reads l n (drop p b))) ≡ take (width l * room) (drop p b)
-  unfolding unused padded
+  unfolding unused
   part-back b p n h k c u =
-      let s = drop p b in
       let j : width l * n ≤ width l * room = mul-le-mul-left (width l) c in
-      let o : width l * n + width l * (room - n) ≡ width l * room = omega (arith, mul-sub (width l) room n) in
-      let z = take (width l * (room - n)) (drop (p + width l * n) b) in
-      let y : length z ≡ width l * (room - n) = length-take-le _ _ (omega (arith, length-drop (p + width l * n) b)) in
-      let w : writes l (reads l n s) ≡ take (width l * n) s = writes-reads l n s (bytes-drop p b h) (omega (arith, length-drop p b)) in
-      let v : length (take (width l * n) s) ≡ width l * n = length-take-le _ _ (omega (arith, length-drop p b)) in
-      let x : width l * room - width l * n ≡ width l * (room - n) = omega arith in
-      rw (w, v, x)
-      (ap (λ (t : List ℕ). take (width l * n) s ++ t) (ap (λ (i : ℕ). replicate i 0) (sym y) ∙ sym (padded-zeros z u))
-      ∙ ap (λ (t : List ℕ). take (width l * n) s ++ take (width l * (room - n)) t) (sym (drop-drop (width l * n) p b))
-      ∙ sym (take-add (width l * n) (width l * (room - n)) s)
-      ∙ ap (λ (i : ℕ). take i s) o)
+      let o : width l * room ≡ width l * n + width l * (room - n) = omega (arith, mul-sub (width l) room n) in
+      rw (writes-reads l n (drop p b) (bytes-drop p b h) (omega (arith, length-drop p b)), o)
+      (padded-back (width l * n) (width l * (room - n)) (drop p b) (omega (arith, length-drop p b)) (rw (drop-drop (width l * n) p b) u))
 
 -- Good states ----------------------------------------------------------------------------------------------------
 
@@ -98,18 +90,38 @@ pub record Good (m : Limits) (s : State) : Type 0 where
 
 -- Rows and entries fit their layouts -----------------------------------------------------------------------------
 
-abbrev Narrow : ℕ → Type 0
-Narrow k = (getD kindFields k none-used .nHigh ≤ 255) × (getD kindFields k none-used .wHigh ≤ 4294967295)
+-- no test fails
+module _ {A : Type 0} (p : A → Bool) where
+  pub none-fails : (xs : List A) → firstNot p xs ≡ none → Each (λ x. p x ≡ true) xs
+  unfolding firstNot Each
+  none-fails [] e = tt
+  none-fails (x ∷ xs) e = let (a, b) = passes (p x) _ 0 e in (a, none-fails xs (none-later (firstNot p xs) b))
+    where
+      none-later : (o : Option ℕ) → _≡_ {A = Option ℕ} (elim o [ none ↦ none | some i ↦ some (suc i) ]) none → o ≡ none
+      none-later none e = refl
+      none-later (some i) e = absurd (none-some (suc i) (sym e))
 
-narrow : Below Narrow 20
-narrow = ((((((((((((((((((((tt, (omega arith, omega arith)), (omega arith, omega arith)), (omega arith, omega arith)), (omega arith, omega arith)), (omega arith, omega arith)), (omega arith, omega arith)), (omega arith, omega arith)), (omega arith, omega arith)), (omega arith, omega arith)), (omega arith, omega arith)), (omega arith, omega arith)), (omega arith, omega arith)), (omega arith, omega arith)), (omega arith, omega arith)), (omega arith, omega arith)), (omega arith, omega arith)), (omega arith, omega arith)), (omega arith, omega arith)), (omega arith, omega arith)), (omega arith, omega arith))
+  pub all-pass : (xs : List A) → Each (λ x. p x ≡ true) xs → firstNot p xs ≡ none
+  unfolding firstNot Each
+  all-pass [] d = refl
+  all-pass (x ∷ xs) (e, d) = rw (e, all-pass xs d) refl
+
+-- n fits a byte and word four, of every kind
+unfoldable narrow : Fields → Bool
+narrow f = leb (f .nHigh) 255 ∧ᵇ leb (f .wHigh) 4294967295
+
+kinds-narrow : Each (λ f. narrow f ≡ true) kindFields
+unfolding narrow firstNot _∧ᵇ_
+kinds-narrow = none-fails narrow kindFields refl
 
 pub row-fits : (count : ℕ) (r : Row) → count ≤ 65536 → legal count (r .head) (r .type) → Fits termRow (raw r)
-unfolding Fits pow256 raw
+unfolding Fits pow256 raw narrow
 row-fits count r h e =
     let g = in-range version count (raw r) e in
     let k : code (r .head) < 20 = omega (arith, last-kind version, g .kindHigh) in
-    let (a, b) = below-at Narrow 20 narrow (code (r .head)) k in
+    let q = each-at (λ f. narrow f ≡ true) kindFields (code (r .head)) none-used kinds-narrow k in
+    let a : getD kindFields (code (r .head)) none-used .nHigh ≤ 255 = leb-true _ 255 (left _ _ q) in
+    let b : getD kindFields (code (r .head)) none-used .wHigh ≤ 4294967295 = leb-true _ 4294967295 (right _ _ q) in
     (omega arith, (omega (arith, g .nTo), (omega (arith, g .typeBelow), (omega (arith, g .wordTo), tt))))
 
 pub rows-fit : (count : ℕ) (l : List Row) → count ≤ 65536 → AllRows (legal count) l → AllFit termRow (map raw l)
@@ -158,22 +170,6 @@ module _ (m : Limits) (s : State) where
       (bytes-padded _ (writes entryRow (map rawEntry (s .calls))) (bytes-writes entryRow (map rawEntry (s .calls))))
       (bytes-padded _ (writes termRow (map raw (flat (s .tree)))) (bytes-writes termRow (map raw (flat (s .tree)))))))
 
--- no test fails
-module _ {A : Type 0} (p : A → Bool) where
-  pub none-fails : (xs : List A) → firstNot p xs ≡ none → Each (λ x. p x ≡ true) xs
-  unfolding firstNot Each
-  none-fails [] e = tt
-  none-fails (x ∷ xs) e = let (a, b) = passes (p x) _ 0 e in (a, none-fails xs (none-later (firstNot p xs) b))
-    where
-      none-later : (o : Option ℕ) → _≡_ {A = Option ℕ} (elim o [ none ↦ none | some i ↦ some (suc i) ]) none → o ≡ none
-      none-later none e = refl
-      none-later (some i) e = absurd (none-some (suc i) (sym e))
-
-  pub all-pass : (xs : List A) → Each (λ x. p x ≡ true) xs → firstNot p xs ≡ none
-  unfolding firstNot Each
-  all-pass [] d = refl
-  all-pass (x ∷ xs) (e, d) = rw (e, all-pass xs d) refl
-
 -- "each future in the term is listed with its type", of a row's numbers
 due-row : (calls : List Entry) (r : Row) → futureListed calls (raw r) ≡ true → Due (listed calls) (r .head) (r .type)
 unfolding futureListed raw code wordOf
@@ -184,7 +180,7 @@ unfolding futureListed raw
 row-due calls r d = go (eqb (code (r .head)) 9) refl
   where
     go : (b : Bool) → eqb (code (r .head)) 9 ≡ b → cond b (given (listed calls (wordOf (r .head))) (r .type)) true ≡ true
-    go true e = given-of _ _ (d (wordOf (r .head)) (future-code (r .head) (eq-if _ _ e)))
+    go true e = given-of _ _ (d (wordOf (r .head)) (future-code (r .head) (eqb-true _ _ e)))
     go false e = refl
 
 due-rows : (calls : List Entry) (l : List Row) → Each (λ r. futureListed calls r ≡ true) (map raw l) → AllRows (Due (listed calls)) l
@@ -201,7 +197,7 @@ entries-sound : (form : ℕ → Form) (next : ℕ) (calls : List Entry) → Each
     → Each (λ r. entrySound form next r ≡ true) (map rawEntry calls)
 unfolding Each entrySound rawEntry
 entries-sound form next [] a b = tt
-entries-sound form next (e ∷ calls) (a, ps) (b, qs) = (both _ _ (lt-of (e .number) next a) (both _ _ b (eq-same 0)), entries-sound form next calls ps qs)
+entries-sound form next (e ∷ calls) (a, ps) (b, qs) = (both _ _ (lt-ltb (e .number) next a) (both _ _ b (eq-same 0)), entries-sound form next calls ps qs)
 
 pub size-some : (t : Tree) → 1 ≤ size t
 unfolding size
@@ -214,27 +210,27 @@ module _ (m : Limits) (s : State) (small : Small m) (good : Good m s) where
       let t = in-range version (length (s .types)) _ (root (legal (length (s .types))) (s .tree) (good .legalRows)) .typeBelow in
       (omega arith, (omega arith, (omega arith, (omega arith, (omega arith, (omega arith, (omega arith, (omega arith, (omega arith, (omega (arith, t, good .program), (omega arith, tt)))))))))))
 
-  read-head : read recordHead (recordOf m s) ≡ headNumbers s
+  pub read-head : read recordHead (recordOf m s) ≡ headNumbers s
   unfolding recordOf
   read-head = read-write recordHead (headNumbers s) _ head-fits
 
-  type-count : typeCount (recordOf m s) ≡ length (s .types)
+  pub type-count : typeCount (recordOf m s) ≡ length (s .types)
   unfolding headNumbers
   type-count = ap (λ (l : List ℕ). getD l 5 0) read-head
 
-  row-count : rowCount (recordOf m s) ≡ size (s .tree)
+  pub row-count : rowCount (recordOf m s) ≡ size (s .tree)
   unfolding headNumbers
   row-count = ap (λ (l : List ℕ). getD l 6 0) read-head
 
-  open-count : openCount (recordOf m s) ≡ length (s .calls)
+  pub open-count : openCount (recordOf m s) ≡ length (s .calls)
   unfolding headNumbers
   open-count = ap (λ (l : List ℕ). getD l 7 0) read-head
 
-  next-number : nextNumber (recordOf m s) ≡ s .next
+  pub next-number : nextNumber (recordOf m s) ≡ s .next
   unfolding headNumbers
   next-number = ap (λ (l : List ℕ). getD l 8 0) read-head
 
-  program-type : programType (recordOf m s) ≡ s .program
+  pub program-type : programType (recordOf m s) ≡ s .program
   unfolding headNumbers
   program-type = ap (λ (l : List ℕ). getD l 9 0) read-head
 
@@ -262,17 +258,17 @@ module _ (m : Limits) (s : State) (small : Small m) (good : Good m s) where
   unfolding rowsAt
   behind-calls = sym (drop-drop (width entryRow * m .calls) (callsAt m) (recordOf m s)) ∙ ap (drop (width entryRow * m .calls)) behind-types ∙ drop-at (callPart m s) (rowPart m s) _ call-length
 
-  types-in : typesIn (recordOf m s) ≡ s .types
+  pub types-in : typesIn (recordOf m s) ≡ s .types
   unfolding typesIn typePart
   types-in = rw (type-count, behind-head) (part-read typeRow (m .types) (s .types) _ (good .typesWide))
 
-  entries-in : entriesIn m (recordOf m s) ≡ map rawEntry (s .calls)
+  pub entries-in : entriesIn m (recordOf m s) ≡ map rawEntry (s .calls)
   unfolding entriesIn callPart
   entries-in =
       rw (open-count, behind-types, ← (length-map (s .calls) rawEntry))
       (part-read entryRow (m .calls) (map rawEntry (s .calls)) _ (entries-fit (s .types) (s .calls) (s .next) (good .typesPass) (omega arith) (omega arith) (good .callsBelow) (good .callsGround)))
 
-  rows-in : rowsIn m (recordOf m s) ≡ map raw (flat (s .tree))
+  pub rows-in : rowsIn m (recordOf m s) ≡ map raw (flat (s .tree))
   unfolding rowsIn rowPart
   rows-in =
       let l = map raw (flat (s .tree)) in
@@ -303,7 +299,7 @@ module _ (m : Limits) (s : State) (small : Small m) (good : Good m s) where
       (both _ _ (numbers-same recordMark)
       (both _ _ (within-of 1 (m .types) (length (s .types)) (good .typesSome) (good .typesMany))
       (both _ _ (within-of 1 (m .rows) (size (s .tree)) (size-some (s .tree)) (good .rowsMany))
-      (both _ _ (le-of (length (s .calls)) (m .calls) (good .callsMany))
+      (both _ _ (le-leb (length (s .calls)) (m .calls) (good .callsMany))
       (both _ _ (within-of 1 (suc (m .lastNumber)) (s .next) (good .nextLow) (good .nextHigh)) (eq-same 0))))))
 
   space-sound : spaceSound m (recordOf m s) ≡ true
@@ -325,7 +321,7 @@ module _ (m : Limits) (s : State) (small : Small m) (good : Good m s) where
       (both _ _ (rw (types-in, tree-in, typed-of (formOf (s .types)) empty (s .tree) (good .typed)) refl)
       (both _ _ (both _ _ (rw calls-in (good .callsRise)) (rw (types-in, next-number, entries-in, all-pass (entrySound (formOf (s .types)) (s .next)) _ (entries-sound (formOf (s .types)) (s .next) (s .calls) (good .callsBelow) (good .callsGround))) refl))
       (both _ _ (rw (calls-in, rows-in, all-pass (futureListed (s .calls)) _ (rows-due (s .calls) (flat (s .tree)) (every-rows _ (s .tree) (good .listed)))) refl)
-      (rw (tree-in, program-type) (eq-of _ _ (good .program)))))))))
+      (rw (tree-in, program-type) (eq-eqb _ _ (good .program)))))))))
 
 -- The state of a sound record ------------------------------------------------------------------------------------
 
@@ -349,20 +345,21 @@ entries-back form next (r ∷ es) (e, d) (h, w) = cc (back r e h, entries-back f
     back (a ∷ []) e h = absurd (omega arith)
     back (a ∷ t ∷ []) e h = absurd (omega arith)
     back (a ∷ t ∷ z ∷ x ∷ l) e h = absurd (omega arith)
-    back (a ∷ t ∷ z ∷ []) e h = let q : z ≡ 0 = eq-if z 0 (right _ _ (right _ _ e)) in cc
+    back (a ∷ t ∷ z ∷ []) e h = let q : z ≡ 0 = eqb-true z 0 (right _ _ (right _ _ e)) in cc
 
 module _ (m : Limits) (b : List ℕ) (small : Small m) (long : length b ≡ recordBytes m) (bytes : AllBytes b) (ok : sound m b ≡ true) where
-  record Header : Type 0 where
-    mark : take 5 (read recordHead b) ≡ recordMark
-    typesSome : 1 ≤ typeCount b
-    typesMany : typeCount b ≤ m .types
-    rowsMany : rowCount b ≤ m .rows
-    callsMany : openCount b ≤ m .calls
-    nextLow : 1 ≤ nextNumber b
-    nextHigh : nextNumber b ≤ suc (m .lastNumber)
-    zeroField : headNo 10 b ≡ 0
+  -- what the header of a sound record says
+  pub record Header : Type 0 where
+    pub mark : take 5 (read recordHead b) ≡ recordMark
+    pub typesSome : 1 ≤ typeCount b
+    pub typesMany : typeCount b ≤ m .types
+    pub rowsMany : rowCount b ≤ m .rows
+    pub callsMany : openCount b ≤ m .calls
+    pub nextLow : 1 ≤ nextNumber b
+    pub nextHigh : nextNumber b ≤ suc (m .lastNumber)
+    pub zeroField : headNo 10 b ≡ 0
 
-  header : Header
+  pub header : Header
   unfolding sound headSound
   header =
       let e0 = left _ _ ok in
@@ -377,27 +374,28 @@ module _ (m : Limits) (b : List ℕ) (small : Small m) (long : length b ≡ reco
         typesSome = t .0;
         typesMany = t .1;
         rowsMany = within-if 1 (m .rows) (rowCount b) (left _ _ e2) .1;
-        callsMany = le-if (openCount b) (m .calls) (left _ _ e3);
+        callsMany = leb-true (openCount b) (m .calls) (left _ _ e3);
         nextLow = n .0;
         nextHigh = n .1;
-        zeroField = eq-if _ _ (right _ _ e4);
+        zeroField = eqb-true _ _ (right _ _ e4);
       }
 
-  record Tests : Type 0 where
-    typesZero : unused typeRow typesAt (typeCount b) (m .types) b ≡ true
-    callsZero : unused entryRow (callsAt m) (openCount b) (m .calls) b ≡ true
-    rowsZero : unused termRow (rowsAt m) (rowCount b) (m .rows) b ≡ true
-    types : badType version (typesIn b) ≡ none
-    shape : shape version (typeCount b) (rowsIn m b) ≡ Whole
-    term : firstBad (formOf (typesIn b)) empty (stateOf m b .tree) ≡ none
-    rising : rises 0 (stateOf m b .calls) ≡ true
-    entries : Each (λ r. entrySound (formOf (typesIn b)) (nextNumber b) r ≡ true) (entriesIn m b)
-    futures : Each (λ r. futureListed (stateOf m b .calls) r ≡ true) (rowsIn m b)
-    program : tyOf (stateOf m b .tree) ≡ programType b
+  -- and the other tests, each by itself
+  pub record Tested : Type 0 where
+    pub typesZero : unused typeRow typesAt (typeCount b) (m .types) b ≡ true
+    pub callsZero : unused entryRow (callsAt m) (openCount b) (m .calls) b ≡ true
+    pub rowsZero : unused termRow (rowsAt m) (rowCount b) (m .rows) b ≡ true
+    pub types : badType version (typesIn b) ≡ none
+    pub shape : shape version (typeCount b) (rowsIn m b) ≡ Whole
+    pub term : firstBad (formOf (typesIn b)) empty (stateOf m b .tree) ≡ none
+    pub rising : rises 0 (stateOf m b .calls) ≡ true
+    pub entries : Each (λ r. entrySound (formOf (typesIn b)) (nextNumber b) r ≡ true) (entriesIn m b)
+    pub futures : Each (λ r. futureListed (stateOf m b .calls) r ≡ true) (rowsIn m b)
+    pub program : tyOf (stateOf m b .tree) ≡ programType b
 
-  tests : Tests
+  pub tested : Tested
   unfolding sound spaceSound typesSound shapeSound termSound callsSound futuresSound programSound
-  tests =
+  tested =
       let e1 = right _ _ ok in
       let e2 = right _ _ e1 in
       let e3 = right _ _ e2 in
@@ -415,27 +413,27 @@ module _ (m : Limits) (b : List ℕ) (small : Small m) (long : length b ≡ reco
         rising = left _ _ (left _ _ e5);
         entries = none-fails _ (entriesIn m b) (nothing-is _ (right _ _ (left _ _ e5)));
         futures = none-fails _ (rowsIn m b) (nothing-is _ (left _ _ e6));
-        program = eq-if _ _ (right _ _ e6);
+        program = eqb-true _ _ (right _ _ e6);
       }
 
-  tree-rows : (map raw (flat (stateOf m b .tree)) ≡ rowsIn m b) × (size (stateOf m b .tree) ≡ length (rowsIn m b)) × Every (legal (typeCount b)) (stateOf m b .tree)
+  pub tree-rows : (map raw (flat (stateOf m b .tree)) ≡ rowsIn m b) × (size (stateOf m b .tree) ≡ length (rowsIn m b)) × Every (legal (typeCount b)) (stateOf m b .tree)
   unfolding stateOf rowsIn
-  tree-rows = shape-whole (typeCount b) (rowsIn m b) (tests .shape) (reads-wide termRow (rowCount b) (drop (rowsAt m) b))
+  tree-rows = shape-whole (typeCount b) (rowsIn m b) (tested .shape) (reads-wide termRow (rowCount b) (drop (rowsAt m) b))
 
   -- the entries read are those of the calls
-  entries-kept : map rawEntry (stateOf m b .calls) ≡ entriesIn m b
+  pub entries-kept : map rawEntry (stateOf m b .calls) ≡ entriesIn m b
   unfolding stateOf entriesIn
-  entries-kept = entries-back (formOf (typesIn b)) (nextNumber b) (entriesIn m b) (tests .entries) (reads-wide entryRow (openCount b) (drop (callsAt m) b))
+  entries-kept = entries-back (formOf (typesIn b)) (nextNumber b) (entriesIn m b) (tested .entries) (reads-wide entryRow (openCount b) (drop (callsAt m) b))
 
-  type-total : length (stateOf m b .types) ≡ typeCount b
+  pub type-total : length (stateOf m b .types) ≡ typeCount b
   unfolding stateOf typesIn
   type-total = length-reads typeRow (typeCount b) (drop typesAt b)
 
-  row-total : size (stateOf m b .tree) ≡ rowCount b
+  pub row-total : size (stateOf m b .tree) ≡ rowCount b
   unfolding rowsIn
   row-total = tree-rows .1 ∙ length-reads termRow (rowCount b) (drop (rowsAt m) b)
 
-  call-total : length (stateOf m b .calls) ≡ openCount b
+  pub call-total : length (stateOf m b .calls) ≡ openCount b
   unfolding stateOf entriesIn
   call-total = length-map (entriesIn m b) entryOf ∙ length-reads entryRow (openCount b) (drop (callsAt m) b)
 
@@ -446,18 +444,18 @@ module _ (m : Limits) (b : List ℕ) (small : Small m) (long : length b ≡ reco
         typesSome = omega (arith, header .typesSome, type-total);
         typesMany = omega (arith, header .typesMany, type-total);
         typesWide = reads-fit typeRow (typeCount b) (drop typesAt b) (bytes-drop typesAt b bytes);
-        typesPass = tests .types;
+        typesPass = tested .types;
         rowsMany = omega (arith, header .rowsMany, row-total);
         legalRows = rw type-total (tree-rows .2);
-        typed = typed-if (formOf (typesIn b)) empty (stateOf m b .tree) (tests .term);
+        typed = typed-if (formOf (typesIn b)) empty (stateOf m b .tree) (tested .term);
         callsMany = omega (arith, header .callsMany, call-total);
-        callsRise = tests .rising;
-        callsBelow = each-map _ _ entryOf (entriesIn m b) (λ r e. lt-if _ _ (left _ _ e)) (tests .entries);
-        callsGround = each-map _ _ entryOf (entriesIn m b) (λ r e. left _ _ (right _ _ e)) (tests .entries);
+        callsRise = tested .rising;
+        callsBelow = each-map _ _ entryOf (entriesIn m b) (λ r e. ltb-true _ _ (left _ _ e)) (tested .entries);
+        callsGround = each-map _ _ entryOf (entriesIn m b) (λ r e. left _ _ (right _ _ e)) (tested .entries);
         nextLow = header .nextLow;
         nextHigh = header .nextHigh;
-        listed = rows-every _ _ (due-rows (stateOf m b .calls) (flat (stateOf m b .tree)) (rw (tree-rows .0) (tests .futures)));
-        program = tests .program;
+        listed = rows-every _ _ (due-rows (stateOf m b .calls) (flat (stateOf m b .tree)) (rw (tree-rows .0) (tested .futures)));
+        program = tested .program;
       }
 
   -- its four parts are those of the state, written
@@ -476,16 +474,16 @@ module _ (m : Limits) (b : List ℕ) (small : Small m) (long : length b ≡ reco
 
   types-kept : padded (width typeRow * m .types) (writes typeRow (stateOf m b .types)) ≡ take (width typeRow * m .types) (drop typesAt b)
   unfolding stateOf typesIn recordBytes rowsAt callsAt
-  types-kept = part-back typeRow (m .types) b typesAt (typeCount b) bytes (omega arith) (header .typesMany) (tests .typesZero)
+  types-kept = part-back typeRow (m .types) b typesAt (typeCount b) bytes (omega arith) (header .typesMany) (tested .typesZero)
 
   calls-kept : padded (width entryRow * m .calls) (writes entryRow (map rawEntry (stateOf m b .calls))) ≡ take (width entryRow * m .calls) (drop (callsAt m) b)
   unfolding entriesIn recordBytes rowsAt
-  calls-kept = rw entries-kept (part-back entryRow (m .calls) b (callsAt m) (openCount b) bytes (omega arith) (header .callsMany) (tests .callsZero))
+  calls-kept = rw entries-kept (part-back entryRow (m .calls) b (callsAt m) (openCount b) bytes (omega arith) (header .callsMany) (tested .callsZero))
 
   rows-kept : padded (width termRow * m .rows) (writes termRow (map raw (flat (stateOf m b .tree)))) ≡ drop (rowsAt m) b
   unfolding rowsIn recordBytes
   rows-kept =
-      rw (tree-rows .0) (part-back termRow (m .rows) b (rowsAt m) (rowCount b) bytes (omega arith) (header .rowsMany) (tests .rowsZero))
+      rw (tree-rows .0) (part-back termRow (m .rows) b (rowsAt m) (rowCount b) bytes (omega arith) (header .rowsMany) (tested .rowsZero))
       ∙ take-all (width termRow * m .rows) (drop (rowsAt m) b) (omega (arith, length-drop (rowsAt m) b))
 
   pub record-state : recordOf m (stateOf m b) ≡ b

@@ -1,21 +1,20 @@
 -- Type tables: the first bad row, what a table that passes promises of each type's form, and which types are ground. Assumes nothing.
 use Prim.Native.Nat.{ℕ, zero, suc, _+_, _≤_, _<_}
 use mathlib.Core.Path.{_≡_, refl, ap, sym, _∙_, fun-ext}
-use mathlib.Core.Bool.{Bool, true, false, cond, not, false≢true}
+use mathlib.Core.Bool.{Bool, true, false, false≢true}
 use mathlib.Core.List.{List, [], _∷_, _++_, append-nil}
-use mathlib.Core.Logic.{_⊎_, inl, inr}
 use mathlib.Core.Option.{Option, none, some}
 use native.Mathlib.Omega.{arith}
 use native.Mathlib.Decide.{ℕ-discrete, decLt}
-use borrow.Author.Tests.{not-true, ne-eqb}
+use borrow.Author.Tests.{leb-true, ltb-true, ne-eqb, not-true}
 use lib.Dec.{eqb, leb, ltb}
-use lib.ListN.{length, take, drop, getD, length-append, List·getD-eq-default}
+use lib.ListN.{length, take, getD, length-append, List·getD-eq-default}
 use lib.Seq.{append-snoc, length-take-le, getD-take}
-use Rattle.meaning.specs.Bytes.{_∧ᵇ_, within}
+use Rattle.meaning.specs.Bytes.{_∧ᵇ_}
 use Rattle.meaning.specs.Types.{Base, Str, File, Truth, Side, ntv, frn, Param, Form, absent, base, fList, fTuple, fFun, types, names, formNo, partsNo, result, parts, formRow, formOf, every, groundForm, groundBelow, ground, lastForm, distinct, below, nonzero, fieldsOk, fresh, groundCall, typeOk, badTypeFrom, badType, sameNumbers}
 use Rattle.meaning.specs.Records.{version}
-use Rattle.meaning.proofs.Tests.{left, right, both, lt-if, le-if, eq-if, within-if, numbers-same, none-some, cond-true}
-use Rattle.meaning.proofs.Shapes.{passes, Below, below-at}
+use Rattle.meaning.proofs.Tests.{left, right, both, within-if, numbers-same, none-some}
+use Rattle.meaning.proofs.Shapes.{passes, Below, start, _▸_, below-at}
 
 -- Ground ---------------------------------------------------------------------------------------------------------
 
@@ -32,7 +31,7 @@ deep form form′ (suc f) zero t h k same = absurd (omega arith)
 deep form form′ (suc f) (suc g) t h k same =
     ap (groundForm (λ p. ltb p t ∧ᵇ groundBelow form f p)) (same t (omega arith))
     ∙ ap (λ (q : ℕ → Bool). groundForm q (form′ t)) (fun-ext λ p. and-cong (ltb p t) _ _ (λ e.
-    let b : p < t = lt-if p t e in
+    let b : p < t = ltb-true p t e in
     deep form form′ f g p (omega arith) (omega arith) (λ q j. same q (omega arith))))
 
 pub ground-below : (form form′ : ℕ → Form) (t : ℕ) → ((p : ℕ) → p ≤ t → form p ≡ form′ p) → ground form t ≡ ground form′ t
@@ -45,7 +44,7 @@ module _ (form : ℕ → Form) (t : ℕ) where
   unfolding ground groundBelow
   ground-eq =
       ap (λ (q : ℕ → Bool). groundForm q (form t)) (fun-ext λ p. and-cong (ltb p t) _ _ (λ e.
-      let b : p < t = lt-if p t e in
+      let b : p < t = ltb-true p t e in
       deep form form t (suc p) p b (omega arith) (λ q j. refl)))
 
   pub ground-known : ground form t ≡ true → form t ≡ absent → ⊥
@@ -54,7 +53,7 @@ module _ (form : ℕ → Form) (t : ℕ) where
 
   pub ground-elem : (e : ℕ) → form t ≡ fList e → ground form t ≡ true → (e < t) × (ground form e ≡ true)
   unfolding groundForm
-  ground-elem e q g = let z : (ltb e t ∧ᵇ ground form e) ≡ true = rw (ground-eq, q) at g in (lt-if e t (left _ _ z), right _ _ z)
+  ground-elem e q g = let z : (ltb e t ∧ᵇ ground form e) ≡ true = rw (ground-eq, q) at g in (ltb-true e t (left _ _ z), right _ _ z)
 
   pub ground-parts : (ts : List ℕ) → form t ≡ fTuple ts → ground form t ≡ true → every (λ p. ltb p t ∧ᵇ ground form p) ts ≡ true
   unfolding groundForm
@@ -171,7 +170,16 @@ row-form r = elim (decLt (formNo r) 8) [
 ]
   where
     known : Below (λ k. formNo r ≡ k → RowForm r) 8
-    known = ((((((((tt, λ e. formless (λ l. omega arith) (rw e refl)), λ e. ofBase Str (omega arith) (rw e refl)), λ e. ofBase File (omega arith) (rw e refl)), λ e. ofBase Truth (omega arith) (rw e refl)), λ e. ofList e (rw e refl)), λ e. ofTuple e (rw e refl)), λ e. ofFun ntv e (rw e refl)), λ e. ofFun frn e (rw e refl))
+    known =
+        start
+        ▸ (λ e. formless (λ l. omega arith) (rw e refl))
+        ▸ (λ e. ofBase Str (omega arith) (rw e refl))
+        ▸ (λ e. ofBase File (omega arith) (rw e refl))
+        ▸ (λ e. ofBase Truth (omega arith) (rw e refl))
+        ▸ (λ e. ofList e (rw e refl))
+        ▸ (λ e. ofTuple e (rw e refl))
+        ▸ (λ e. ofFun ntv e (rw e refl))
+        ▸ (λ e. ofFun frn e (rw e refl))
 
 -- what every type of a table of so many keeps
 pub record Promises (form : ℕ → Form) (count : ℕ) : Type 0 where
@@ -186,7 +194,7 @@ pub record Promises (form : ℕ → Form) (count : ℕ) : Type 0 where
 
 pub below-if : (i t : ℕ) → below i t ≡ true → t < i
 unfolding below
-below-if i t e = lt-if t i e
+below-if i t e = ltb-true t i e
 
 every-map : (p q q′ : ℕ → Bool) (xs : List ℕ) → ((x : ℕ) → p x ≡ true → q x ≡ true → q′ x ≡ true) → every p xs ≡ true → every q xs ≡ true → every q′ xs ≡ true
 unfolding every
@@ -220,7 +228,7 @@ fields-fun i r s e k = go s e
     kept k =
         let a = right _ _ k in
         let b = right _ _ (right _ _ a) in
-        record { few = le-if (partsNo r) 8 (left _ _ k); result = left _ _ a; distinct = left _ _ b; args = right _ _ b }
+        record { few = leb-true (partsNo r) 8 (left _ _ k); result = left _ _ a; distinct = left _ _ b; args = right _ _ b }
 
     go : (s : Side) → formNo r ≡ sideNo s → FunFields i r
     go ntv e = kept (rw e at (right _ _ k))

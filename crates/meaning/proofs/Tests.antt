@@ -5,6 +5,7 @@ use mathlib.Core.Bool.{Bool, true, false, not, cond, false≢true}
 use mathlib.Core.List.{List, [], _∷_}
 use mathlib.Core.Option.{Option, none, some}
 use lib.Dec.{T, eqb, leb, ltb, eqb→eq, eqb-refl, leb→le, le→leb, ltb→lt, lt→ltb}
+use borrow.Author.Tests.{eq-eqb, eqb-true, le-leb, leb-true, lt-ltb, ltb-true}
 use Rattle.meaning.specs.Bytes.{_∧ᵇ_, within}
 use Rattle.meaning.specs.Types.{sameNumbers}
 use Rattle.meaning.specs.Steps.{_∨ᵇ_}
@@ -51,34 +52,16 @@ pub of-T : (b : Bool) → T b → b ≡ true
 of-T true t = refl
 of-T false t = absurd t
 
-pub eq-if : (m n : ℕ) → eqb m n ≡ true → m ≡ n
-eq-if m n e = eqb→eq m n (T-of (eqb m n) e)
-
 pub eq-same : (n : ℕ) → eqb n n ≡ true
 eq-same n = of-T (eqb n n) (eqb-refl n)
 
-pub eq-of : (m n : ℕ) → m ≡ n → eqb m n ≡ true
-eq-of m n e = rw e (eq-same n)
-
-pub le-if : (m n : ℕ) → leb m n ≡ true → m ≤ n
-le-if m n e = leb→le m n (T-of (leb m n) e)
-
-pub le-of : (m n : ℕ) → m ≤ n → leb m n ≡ true
-le-of m n h = of-T (leb m n) (le→leb m n h)
-
-pub lt-if : (m n : ℕ) → ltb m n ≡ true → m < n
-lt-if m n e = ltb→lt m n (T-of (ltb m n) e)
-
-pub lt-of : (m n : ℕ) → m < n → ltb m n ≡ true
-lt-of m n h = of-T (ltb m n) (lt→ltb m n h)
-
 pub within-if : (a b n : ℕ) → within a b n ≡ true → (a ≤ n) × (n ≤ b)
 unfolding within
-within-if a b n e = (le-if a n (left _ _ e), le-if n b (right _ _ e))
+within-if a b n e = (leb-true a n (left _ _ e), leb-true n b (right _ _ e))
 
 pub within-of : (a b n : ℕ) → a ≤ n → n ≤ b → within a b n ≡ true
 unfolding within
-within-of a b n h k = both _ _ (le-of a n h) (le-of n b k)
+within-of a b n h k = both _ _ (le-leb a n h) (le-leb n b k)
 
 -- which way a test went
 pub cond-true : {A : Type 0} (b : Bool) (x y : A) → b ≡ true → cond b x y ≡ x
@@ -92,7 +75,7 @@ unfolding sameNumbers
 numbers-is [] [] t = refl
 numbers-is [] (y ∷ ys) t = absurd (false≢true t)
 numbers-is (x ∷ xs) [] t = absurd (false≢true t)
-numbers-is (x ∷ xs) (y ∷ ys) t = cc (eq-if x y (left _ _ t), numbers-is xs ys (right _ _ t))
+numbers-is (x ∷ xs) (y ∷ ys) t = cc (eqb-true x y (left _ _ t), numbers-is xs ys (right _ _ t))
 
 pub numbers-same : (a : List ℕ) → sameNumbers a a ≡ true
 unfolding sameNumbers

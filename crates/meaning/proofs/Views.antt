@@ -3,9 +3,9 @@ use Prim.Native.Nat.{ℕ}
 use mathlib.Core.Path.{_≡_, refl, ap, sym, _∙_, subst}
 use mathlib.Core.Bool.{true, false}
 use lib.Dec.{eqb}
+use borrow.Author.Tests.{eqb-true}
 use Rattle.meaning.specs.Terms.{Lit, str, file, truth, Head, lit, var, lambda, foreign, apply, future, ite, fix, nil, cons, isnil, zip, tuple, project, lproject, bind, arity, code, nOf, wordOf, headFrom, Tree, Forest, node, end, more, headOf, tyOf, is}
 use Rattle.meaning.specs.Typing.{belowOk}
-use Rattle.meaning.proofs.Tests.{eq-if}
 
 -- a head is what its kind makes of its fields
 pub made : (h : Head) → headFrom (code h) (nOf h) (wordOf h) ≡ h
@@ -31,7 +31,7 @@ made (lproject i) = refl
 made (bind x) = refl
 
 pub head-is : (k : ℕ) (h : Head) → eqb (code h) k ≡ true → h ≡ headFrom k (nOf h) (wordOf h)
-head-is k h e = sym (made h) ∙ ap (λ x. headFrom x (nOf h) (wordOf h)) (eq-if (code h) k e)
+head-is k h e = sym (made h) ∙ ap (λ x. headFrom x (nOf h) (wordOf h)) (eqb-true (code h) k e)
 
 -- a tree under another name of its head
 renamed : {h h′ : Head} (ty : ℕ) (f : Forest (arity h)) → h ≡ h′ → (g : Forest (arity h′)) × (node h ty f ≡ node h′ ty g)

@@ -252,8 +252,11 @@ pub record LegalReply (m : Limits) (s : State) (reply : List ℕ) : Type 0 where
   pub one-tree : shape version (length (s .types)) (replyRows reply) ≡ Whole
 
 -- refusal 14: "not of kind 1 to 4, 12, 13, 16"
+abbrev pub replyKinds : List ℕ
+replyKinds = 1 ∷ 2 ∷ 3 ∷ 4 ∷ 12 ∷ 13 ∷ 16 ∷ []
+
 unfoldable pub replyKind : List ℕ → Bool
-replyKind r = member (kindNo r) (1 ∷ 2 ∷ 3 ∷ 4 ∷ 12 ∷ 13 ∷ 16 ∷ [])
+replyKind r = member (kindNo r) replyKinds
 
 -- refusal 15: "first reply row that fails typing; row 0 must also have the listed type"
 unfoldable pub replyBad : (ℕ → Form) → ℕ → Tree → Option ℕ
@@ -297,6 +300,23 @@ reply m kept work answer =
     (cond (sound m kept) (repliedOut m (stateOf m kept) answer kept work (replyVerdict m (stateOf m kept) answer))
     (repliedOut m (stateOf m kept) answer kept work (Refused Unsound)))
     (repliedOut m (stateOf m kept) answer kept work (Refused Length))
+
+-- What the entries' contracts say ----------------------------------------------------------------------------------
+
+-- the answer, and every byte of every lent buffer
+pub record LoadSays (m : Limits) (file kept : List ℕ) (v : Verdict) (kept′ : List ℕ) : Type 0 where
+  pub verdict : v ≡ load m file kept .verdict
+  pub kept-bytes : kept′ ≡ load m file kept .record′
+
+pub record RunSays (m : Limits) (kept work : List ℕ) (budget : ℕ) (r : Run) (kept′ work′ : List ℕ) : Type 0 where
+  pub answer : r ≡ run m kept work budget .answer
+  pub kept-bytes : kept′ ≡ run m kept work budget .record′
+  pub work-bytes : work′ ≡ run m kept work budget .work′
+
+pub record ReplySays (m : Limits) (kept work answer : List ℕ) (v : Verdict) (kept′ work′ : List ℕ) : Type 0 where
+  pub verdict : v ≡ reply m kept work answer .verdict
+  pub kept-bytes : kept′ ≡ reply m kept work answer .record′
+  pub work-bytes : work′ ≡ reply m kept work answer .work′
 
 -- Histories ------------------------------------------------------------------------------------------------------
 

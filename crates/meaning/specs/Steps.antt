@@ -124,6 +124,11 @@ isnilStep u c = cond (is 12 c) (go none (node (lit (truth true)) u end)) (cond (
 unfoldable pub projectStep : ℕ → Tree → Out
 projectStep i c = cond (is 16 c) (become (child i c)) stay
 
+-- "Apply of a foreign function: all arguments values, then the whole becomes a future with the next number and a call is sent"
+unfoldable pub sendStep : {n : ℕ} → ℕ → ℕ → Tree → Forest n → Out
+sendStep k u c args =
+    cond (values args) (go (some (record { tool = wordOf (headOf c); rows = flats args; result = u })) (node (future k) u end)) stay
+
 -- over the masked arguments of a zip: all are nil or cons; one is nil; the heads; the tails
 unfoldable pub isList : Tree → Bool
 isList t = is 12 t ∨ᵇ is 13 t
@@ -156,11 +161,6 @@ module _ (form : ℕ → Form) where
 
   unfoldable pub fixStep : ℕ → Tree → Out
   fixStep u c = cond (is 6 c) (tie u c (params (form (tyOf c)))) stay
-
-  -- "Apply of a foreign function: all arguments values, then the whole becomes a future with the next number and a call is sent"
-  unfoldable pub sendStep : {n : ℕ} → ℕ → ℕ → Tree → Forest n → Out
-  sendStep k u c args =
-      cond (values args) (go (some (record { tool = wordOf (headOf c); rows = flats args; result = u })) (node (future k) u end)) stay
 
   -- "When all are nil or cons: any nil gives nil; otherwise a cons of the inner function on the heads and the same zip on the
   -- tails, other arguments in both"
@@ -302,9 +302,9 @@ pub record Entry : Type 0 where
   pub number : ℕ
   pub type : ℕ
 
-unfoldable pub or : Option Entry → Option Entry → Option Entry
-or none o = o
-or (some e) o = some e
+unfoldable pub earlier : Option Entry → Option Entry → Option Entry
+earlier none o = o
+earlier (some e) o = some e
 
 -- the first future that stands where the rules look, with the type that it states
 unfoldable mutual
@@ -313,4 +313,4 @@ unfoldable mutual
 
   pub awaitedIn : {n : ℕ} → Places → Forest n → Option Entry
   awaitedIn a end = none
-  awaitedIn a (more t f) = or (cond (a 0) (awaited t) none) (awaitedIn (λ i. a (suc i)) f)
+  awaitedIn a (more t f) = earlier (cond (a 0) (awaited t) none) (awaitedIn (λ i. a (suc i)) f)

@@ -1,0 +1,121 @@
+-- What the entries' statements settle: two outcomes that satisfy one are equal; and on bytes, a run leaves the record of the term after
+-- exactly the steps that it reports, and a reply is taken exactly for an open call. Assumes nothing.
+use Prim.Native.Nat.{ℕ, zero, suc, _≤_}
+use mathlib.Core.Path.{_≡_, refl, ap, sym, _∙_}
+use mathlib.Core.Bool.{Bool, true, false, cond, false≢true}
+use mathlib.Core.Logic.{_↔_}
+use mathlib.Core.List.{List, [], _∷_}
+use mathlib.Core.Option.{Option, none, some}
+use native.Mathlib.Omega.{arith}
+use borrow.Author.Tests.{eqb-true}
+use lib.Dec.{eqb}
+use lib.ListN.{length}
+use Rattle.meaning.specs.Bytes.{_∧ᵇ_, Limits, recordBytes, padded}
+use Rattle.meaning.specs.Records.{State, recordOf, stateOf, sound}
+use Rattle.meaning.specs.Entries.{RunOut, Ended, runs, afterSteps, lent, ranOut, rejected, run, Replied, LegalReply, replyVerdict, repliedOut, reply, LoadSays, RunSays, ReplySays}
+use Rattle.meaning.specs.declared.Refusal.{Refusal}
+use Rattle.meaning.specs.declared.Refusal.the-variants.{Length, Unsound}
+use Rattle.meaning.specs.declared.Verdict.{Verdict}
+use Rattle.meaning.specs.declared.Verdict.the-variants.{Accepted, Refused}
+use Rattle.meaning.specs.declared.Answer.{Answer}
+use Rattle.meaning.specs.declared.Run.{Run}
+use Rattle.meaning.specs.declared.Run.the-variants.{Ran, Rejected}
+use Rattle.meaning.proofs.Tests.{both, left, right}
+use Rattle.meaning.proofs.Layouts.{AllBytes}
+use Rattle.meaning.proofs.Sound.{Small, Good, good-state, state-record}
+use Rattle.meaning.proofs.Running.{Ends, run-makes, run-ends, run-within, run-keeps}
+use Rattle.meaning.proofs.Replying.{Answers, takes}
+use Rattle.meaning.proofs.Stays.{Board, step-stays}
+
+-- "Two outcomes that satisfy it are proved equal" ------------------------------------------------------------------
+
+pub load-one : (m : Limits) (file kept : List ℕ) (v w : Verdict) (a b : List ℕ) → LoadSays m file kept v a → LoadSays m file kept w b → (v ≡ w) × (a ≡ b)
+load-one m file kept v w a b p q = (cc, cc)
+
+pub run-one : (m : Limits) (kept work : List ℕ) (budget : ℕ) (r t : Run) (a b c d : List ℕ) → RunSays m kept work budget r a b → RunSays m kept work budget t c d → (r ≡ t) × (a ≡ c) × (b ≡ d)
+run-one m kept work budget r t a b c d p q = (cc, cc, cc)
+
+pub reply-one : (m : Limits) (kept work answer : List ℕ) (v w : Verdict) (a b c d : List ℕ) → ReplySays m kept work answer v a b → ReplySays m kept work answer w c d → (v ≡ w) × (a ≡ c) × (b ≡ d)
+reply-one m kept work answer v w a b c d p q = (cc, cc, cc)
+
+-- Runs on bytes ----------------------------------------------------------------------------------------------------
+
+-- an answered run was lent the right buffers and a sound record
+pub record Answered (m : Limits) (kept work : List ℕ) (budget : ℕ) : Type 0 where
+  pub buffers : lent m kept work ≡ true
+  pub is-sound : sound m kept ≡ true
+  pub outcome : run m kept work budget ≡ ranOut m (runs m budget (stateOf m kept))
+
+never-ran : (r : Refusal) (a : Answer) (n : ℕ) → Rejected r ≡ Ran a n → ⊥
+never-ran r a n e = let z : _≡_ {A = ℕ} 0 1 = cc in omega arith
+
+answered-if : (m : Limits) (e : Ended) (kept work : List ℕ) (a : Answer) (n : ℕ) (x y : Bool)
+    → cond x (cond y (ranOut m e) (rejected Unsound kept work)) (rejected Length kept work) .answer ≡ Ran a n
+    → (x ≡ true) × (y ≡ true) × (cond x (cond y (ranOut m e) (rejected Unsound kept work)) (rejected Length kept work) ≡ ranOut m e)
+unfolding rejected
+answered-if m e kept work a n true true q = (refl, refl, refl)
+answered-if m e kept work a n true false q = absurd (never-ran Unsound a n q)
+answered-if m e kept work a n false y q = absurd (never-ran Length a n q)
+
+pub answered : (m : Limits) (kept work : List ℕ) (budget : ℕ) (a : Answer) (n : ℕ) → run m kept work budget .answer ≡ Ran a n → Answered m kept work budget
+unfolding run
+answered m kept work budget a n q =
+    let (x, y, z) = answered-if m (runs m budget (stateOf m kept)) kept work a n (lent m kept work) (sound m kept) q in
+    record { buffers = x; is-sound = y; outcome = z }
+
+-- demand 2 on bytes: the record after a run that reports n steps is that of the state after exactly n defined steps
+pub record Reported (m : Limits) (kept work : List ℕ) (budget : ℕ) (a : Answer) (n : ℕ) : Type 0 where
+  pub state : State
+  pub good : Good m state
+  pub steps : afterSteps n (stateOf m kept) ≡ some state
+  pub within : n ≤ budget
+  pub record-bytes : run m kept work budget .record′ ≡ recordOf m state
+  pub record-state : stateOf m (run m kept work budget .record′) ≡ state
+  pub work-bytes : run m kept work budget .work′ ≡ padded (m .workBytes) (runs m budget (stateOf m kept) .letter)
+  pub ends : Ends m budget (stateOf m kept) (runs m budget (stateOf m kept))
+  pub told : a ≡ runs m budget (stateOf m kept) .answer
+
+ran-same : (a b : Answer) (n k : ℕ) → Ran a n ≡ Ran b k → (a ≡ b) × (n ≡ k)
+ran-same a b n k e = (cc, cc)
+
+ran-parts : (m : Limits) (e : Ended) → (ranOut m e .answer ≡ Ran (e .answer) (e .made)) × (ranOut m e .record′ ≡ recordOf m (e .state)) × (ranOut m e .work′ ≡ padded (m .workBytes) (e .letter))
+unfolding ranOut
+ran-parts m e = (refl, refl, refl)
+
+pub run-reports : (m : Limits) → Board m → (kept work : List ℕ) (budget : ℕ) (a : Answer) (n : ℕ) → AllBytes kept → run m kept work budget .answer ≡ Ran a n → Reported m kept work budget a n
+unfolding lent
+run-reports m k kept work budget a n h q =
+    let x = answered m kept work budget a n q in
+    let s = stateOf m kept in
+    let e = runs m budget s in
+    let (p₁, p₂, p₃) = ran-parts m e in
+    let (u, v) = ran-same a (e .answer) n (e .made) (sym q ∙ ap (λ (o : RunOut). o .answer) (x .outcome) ∙ p₁) in
+    let g = run-keeps m (Good m) (step-stays m k) budget s (good-state m kept (k .small) (eqb-true _ _ (left _ _ (x .buffers))) h (x .is-sound)) in
+    let r : run m kept work budget .record′ ≡ recordOf m (e .state) = ap (λ (o : RunOut). o .record′) (x .outcome) ∙ p₂ in
+    record {
+      state = e .state;
+      good = g;
+      steps = ap (λ (i : ℕ). afterSteps i s) v ∙ run-makes m budget s;
+      within = omega (arith, run-within m budget s);
+      record-bytes = r;
+      record-state = ap (stateOf m) r ∙ state-record m (e .state) (k .small) g;
+      work-bytes = ap (λ (o : RunOut). o .work′) (x .outcome) ∙ p₃;
+      ends = run-ends m budget s;
+      told = u;
+    }
+
+-- Replies on bytes -------------------------------------------------------------------------------------------------
+
+pub reply-verdict : (m : Limits) (kept work answer : List ℕ) → lent m kept work ≡ true → sound m kept ≡ true → reply m kept work answer .verdict ≡ replyVerdict m (stateOf m kept) answer
+unfolding reply repliedOut
+reply-verdict m kept work answer l s = rw (l, s) refl
+
+-- demand 2 on bytes: "On a sound record a reply of legal form is accepted exactly if .."
+pub reply-accepts : (m : Limits) → Small m → (kept work answer : List ℕ) → AllBytes kept → lent m kept work ≡ true → sound m kept ≡ true → LegalReply m (stateOf m kept) answer
+    → (reply m kept work answer .verdict ≡ Accepted) ↔ Answers m (stateOf m kept) answer
+unfolding lent
+reply-accepts m k kept work answer h l s f =
+    let g = good-state m kept k (eqb-true _ _ (left _ _ l)) h s in
+    let e = reply-verdict m kept work answer l s in
+    let t = takes m (stateOf m kept) answer g f in
+    ((λ q. t .0 (sym e ∙ q)), (λ a. e ∙ t .1 a))
