@@ -27,7 +27,7 @@ use Rattle.meaning.specs.declared.Run.{Run}
 use Rattle.meaning.specs.declared.Run.the-variants.{Ran, Rejected}
 use Rattle.meaning.proofs.Tests.{both, none-some}
 use Rattle.meaning.proofs.Layouts.{AllBytes}
-use Rattle.meaning.proofs.Sound.{Small, Good, state-record, sound-record}
+use Rattle.meaning.proofs.Sound.{Small, Good, good-state, record-state, state-record, sound-record}
 use Rattle.meaning.proofs.Progress.{Progress, done, moves, waits, progress, awaited-listed}
 use Rattle.meaning.proofs.Running.{Stops, behind, Passes, Ends, stopped, spent, called, run-ends, run-keeps, run-makes}
 use Rattle.meaning.proofs.Stays.{Board, step-stays, reply-stays}
@@ -182,6 +182,15 @@ holds-alive m k p b h = rw (h .bytes, ← h .of-program) (alive-state m k (h .st
 pub alive : (m : Limits) → Board m → (file kept : List ℕ) → AllBytes file → load m file kept .verdict ≡ Accepted → (vs : List Move)
     → Alive m (tyOf (fileTree file)) (after m (load m file kept .record′) vs)
 alive m k file kept h e vs = holds-alive m k (tyOf (fileTree file)) _ (history-holds m k (tyOf (fileTree file)) _ vs (load-holds m k file kept h e))
+
+-- and of every sound record, however it came about
+pub sound-holds : (m : Limits) → Board m → (b : List ℕ) → length b ≡ recordBytes m → AllBytes b → sound m b ≡ true → Holds m (stateOf m b .program) b
+sound-holds m k b n h e =
+    record { state = stateOf m b; good = good-state m b (k .small) n h e; of-program = refl; bytes = sym (record-state m b (k .small) n h e) }
+
+pub sound-alive : (m : Limits) → Board m → (b : List ℕ) → length b ≡ recordBytes m → AllBytes b → sound m b ≡ true → (vs : List Move)
+    → Alive m (stateOf m b .program) (after m b vs)
+sound-alive m k b n h e vs = holds-alive m k (stateOf m b .program) _ (history-holds m k (stateOf m b .program) b vs (sound-holds m k b n h e))
 
 -- Numbers --------------------------------------------------------------------------------------------------------
 
