@@ -1,0 +1,14 @@
+-- The numbers of a row by value, and what a search found. Assumes nothing.
+use Prim.Native.Nat.{ℕ}
+use mathlib.Core.List.{List, [], _∷_}
+use mathlib.Core.Option.{Option, none, some}
+use Rattle.layout.specs.declared.Row.{Row}
+use Rattle.layout.specs.declared.Found.{Found}
+use Rattle.layout.specs.declared.Found.the-variants.{At, Nothing}
+
+abbrev pub numbers : Row → List ℕ
+numbers r = r .kind ∷ r .n ∷ r .ty ∷ r .word ∷ []
+
+abbrev pub found : Found → Option ℕ
+found (At i) = some i
+found Nothing = none

@@ -1,0 +1,143 @@
+// Numbers and rows in lent bytes, by the layouts of the meaning: read by value, written, copied, cleared.
+ghost use mathlib.Core.Path.{_≡_};
+ghost use mathlib.Core.List.{_++_};
+ghost use Prim.Native.Nat.{_+_, _*_, _-_, _≤_, _<_};
+ghost use lib.ListN.{length, getD, take, drop, replicate};
+ghost use lib.Seq.{sets};
+ghost use Rattle.meaning.specs.Bytes.{number, spell, read, typeRow, termRow};
+ghost use Rattle.meaning.specs.Types.{formNo, partsNo, result};
+ghost use Rattle.layout.specs.Rows.{numbers};
+
+// What a search for a row finds.
+pub enum Found {
+    At(u32),
+    Nothing,
+}
+
+// A term row.
+pub struct Row {
+    pub kind: u8,
+    pub n: u8,
+    pub ty: u16,
+    pub word: u32,
+}
+
+fn u16_of(a: u8, b: u8) -> u16
+    ensures { λ r. ⌜ r ≡ a + 256 * b ⌝ }
+{
+    a as u16 + 256 * b as u16
+}
+
+fn u32_of(low: u16, high: u16) -> u32
+    ensures { λ r. ⌜ r ≡ low + 65536 * high ⌝ }
+{
+    low as u32 + 65536 * high as u32
+}
+
+pub fn u16_at(s: &[u8], at: usize) -> u16
+    requires { ⌜ at + 2 ≤ length (now s) ⌝ }
+    ensures { λ r. ⌜ r ≡ number 2 (drop at (now (s .entry))) ⌝ }
+{
+    u16_of(s[at], s[at + 1])
+}
+
+pub fn u32_at(s: &[u8], at: usize) -> u32
+    requires { ⌜ at + 4 ≤ length (now s) ⌝ }
+    ensures { λ r. ⌜ r ≡ number 4 (drop at (now (s .entry))) ⌝ }
+{
+    u32_of(u16_at(s, at), u16_at(s, at + 2))
+}
+
+// Row i of the term rows that begin at base.
+pub fn row_at(bytes: &[u8], base: usize, i: usize) -> Row
+    requires { ⌜ base + 8 * i + 8 ≤ length (now bytes) ⌝ }
+    ensures { λ r. ⌜ numbers r ≡ read termRow (drop (base + 8 * i) (now (bytes .entry))) ⌝ }
+{
+    let at = base + 8 * i;
+    Row {
+        kind: bytes[at],
+        n: bytes[at + 1],
+        ty: u16_at(bytes, at + 2),
+        word: u32_at(bytes, at + 4),
+    }
+}
+
+// The fields of row t of the type rows that begin at base.
+pub fn form_no(types: &[u8], base: usize, t: usize) -> u8
+    requires { ⌜ base + 36 * t + 36 ≤ length (now types) ⌝ }
+    ensures { λ r. ⌜ r ≡ formNo (read typeRow (drop (base + 36 * t) (now (types .entry)))) ⌝ }
+{
+    types[base + 36 * t]
+}
+
+pub fn parts_no(types: &[u8], base: usize, t: usize) -> u8
+    requires { ⌜ base + 36 * t + 36 ≤ length (now types) ⌝ }
+    ensures { λ r. ⌜ r ≡ partsNo (read typeRow (drop (base + 36 * t) (now (types .entry)))) ⌝ }
+{
+    types[base + 36 * t + 1]
+}
+
+pub fn result_no(types: &[u8], base: usize, t: usize) -> u16
+    requires { ⌜ base + 36 * t + 36 ≤ length (now types) ⌝ }
+    ensures { λ r. ⌜ r ≡ result (read typeRow (drop (base + 36 * t) (now (types .entry)))) ⌝ }
+{
+    u16_at(types, base + 36 * t + 2)
+}
+
+// The k-th pair's name and type, counted from 0.
+pub fn name_no(types: &[u8], base: usize, t: usize, k: usize) -> u16
+    requires { ⌜ (base + 36 * t + 36 ≤ length (now types)) × (k < 8) ⌝ }
+    ensures { λ r. ⌜ r ≡ getD (read typeRow (drop (base + 36 * t) (now (types .entry)))) (3 + 2 * k) 0 ⌝ }
+{
+    u16_at(types, base + 36 * t + 4 + 4 * k)
+}
+
+pub fn type_no(types: &[u8], base: usize, t: usize, k: usize) -> u16
+    requires { ⌜ (base + 36 * t + 36 ≤ length (now types)) × (k < 8) ⌝ }
+    ensures { λ r. ⌜ r ≡ getD (read typeRow (drop (base + 36 * t) (now (types .entry)))) (4 + 2 * k) 0 ⌝ }
+{
+    u16_at(types, base + 36 * t + 6 + 4 * k)
+}
+
+pub fn put16_at(buf: &mut [u8], at: usize, x: u16)
+    requires { ⌜ at + 2 ≤ length (now buf) ⌝ }
+    ensures { λ _. ⌜ now (buf .exit) ≡ sets (now (buf .entry)) at (spell 2 x) ⌝ }
+{
+    buf[at] = (x % 256) as u8;
+    buf[at + 1] = (x / 256 % 256) as u8;
+}
+
+pub fn put32_at(buf: &mut [u8], at: usize, x: u32)
+    requires { ⌜ at + 4 ≤ length (now buf) ⌝ }
+    ensures { λ _. ⌜ now (buf .exit) ≡ sets (now (buf .entry)) at (spell 4 x) ⌝ }
+{
+    buf[at] = (x % 256) as u8;
+    buf[at + 1] = (x / 256 % 256) as u8;
+    buf[at + 2] = (x / 256 / 256 % 256) as u8;
+    buf[at + 3] = (x / 256 / 256 / 256 % 256) as u8;
+}
+
+// n bytes of src, from place `from` on, go to dst from place `at` on.
+pub fn copy_to(dst: &mut [u8], at: usize, src: &[u8], from: usize, n: usize)
+    requires { ⌜ (at + n ≤ length (now dst)) × (from + n ≤ length (now src)) ⌝ }
+    ensures { λ _. ⌜ now (dst .exit) ≡ take at (now (dst .entry)) ++ (take n (drop from (now (src .entry))) ++ drop (at + n) (now (dst .entry))) ⌝ }
+{
+    let mut i = 0;
+    while i < n {
+        dst[at + i] = src[from + i];
+        i += 1;
+    }
+}
+
+// Zeros from place `from` up to place `to`.
+pub fn clear(dst: &mut [u8], from: usize, to: usize)
+    requires { ⌜ (from ≤ to) × (to ≤ length (now dst)) ⌝ }
+    ensures { λ _. ⌜ now (dst .exit) ≡ take from (now (dst .entry)) ++ (replicate (to - from) 0 ++ drop to (now (dst .entry))) ⌝ }
+{
+    let n = to - from;
+    let mut i = 0;
+    while i < n {
+        dst[from + i] = 0;
+        i += 1;
+    }
+}

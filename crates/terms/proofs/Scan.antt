@@ -1,0 +1,189 @@
+-- One row of a scan by the trees still owed; what a whole table is; where trees end. Assumes nothing.
+use Prim.Native.Nat.{ℕ, zero, suc, _+_, _-_, _*_, _<_, _≤_}
+use mathlib.Core.Path.{_≡_, refl, ap, sym, _∙_, subst}
+use mathlib.Core.List.{List, [], _∷_, map}
+use mathlib.Core.Option.{Option, none, some}
+use native.Mathlib.Omega.{arith}
+use native.Mathlib.Numerals.{add-one}
+use native.Mathlib.Nat.{add-zero, add-suc}
+use native.Mathlib.Decide.{ℕ-discrete}
+use lib.ListN.{length, getD, set, drop, drop-of-length-le, length-map, List·getD-map, length-drop}
+use lib.Seq.{drop-cons, getD-set-same, getD-set-other}
+use Rattle.layout.proofs.Laws.{rows-length, term-rows-at}
+use Rattle.meaning.specs.Bytes.{read, reads, termRow}
+use Rattle.meaning.specs.Terms.{arity, Tree, Forest, node, end, more, Row, size, sizes, rowOf, rowFault, shape, shapeFrom, unless-bad, blank, kids, trees, top, treeAt, grove}
+use Rattle.meaning.specs.declared.Fault.{Fault}
+use Rattle.meaning.specs.declared.Fault.the-variants.{Behind, Unfinished}
+use Rattle.meaning.specs.declared.Shape.{Shape}
+use Rattle.meaning.specs.declared.Shape.the-variants.{Whole, Bad}
+use Rattle.meaning.proofs.Parse.{sizes-split, grove-more, tree-row}
+use Rattle.terms.specs.Tables.{Closed, Ends, hop, HopsIn}
+
+-- Shape ----------------------------------------------------------------------------------------------------------
+
+module _ (edition count : ℕ) (l : List (List ℕ)) (i owed : ℕ) (r : List ℕ) (h : i < length l) (e : getD l i [] ≡ r) where
+  front : drop i l ≡ r ∷ drop (i + 1) l
+  front = rw (add-one, drop-cons l i []) (ap (λ (x : List ℕ). x ∷ drop (suc i) l) e)
+
+  pub shape-bad : (f : Fault) → some f ≡ rowFault edition count r → shapeFrom edition count (drop i l) owed i ≡ Bad f i
+  unfolding shapeFrom unless-bad
+  shape-bad f q = rw front (go owed)
+    where
+      go : (k : ℕ) → shapeFrom edition count (r ∷ drop (i + 1) l) k i ≡ Bad f i
+      go zero = rw (sym q) refl
+      go (suc k) = rw (sym q) refl
+
+  pub shape-behind : none ≡ rowFault edition count r → owed ≡ 0 → shapeFrom edition count (drop i l) owed i ≡ Bad Behind i
+  unfolding shapeFrom unless-bad
+  shape-behind q z = rw (front, z) (rw (sym q) refl)
+
+  pub shape-on : none ≡ rowFault edition count r → (owed ≡ 0 → ⊥) → shapeFrom edition count (drop i l) owed i ≡ shapeFrom edition count (drop (i + 1) l) (owed - 1 + arity (rowOf r .head)) (i + 1)
+  unfolding shapeFrom unless-bad
+  shape-on q z = rw front (go owed z)
+    where
+      go : (k : ℕ) → (k ≡ 0 → ⊥) → shapeFrom edition count (r ∷ drop (i + 1) l) k i ≡ shapeFrom edition count (drop (i + 1) l) (k - 1 + arity (rowOf r .head)) (i + 1)
+      go zero n = absurd (n refl)
+      go (suc k) n =
+          let c : k + arity (rowOf r .head) ≡ suc k - 1 + arity (rowOf r .head) = omega arith in
+          let d : suc i ≡ i + 1 = omega arith in
+          rw (sym q, c, d) refl
+
+module _ (edition count : ℕ) (l : List (List ℕ)) (i owed : ℕ) (h : length l ≤ i) where
+  pub shape-whole : owed ≡ 0 → shapeFrom edition count (drop i l) owed i ≡ Whole
+  unfolding shapeFrom
+  shape-whole e = rw (drop-of-length-le l h, e) refl
+
+  pub shape-short : (owed ≡ 0 → ⊥) → shapeFrom edition count (drop i l) owed i ≡ Bad Unfinished i
+  unfolding shapeFrom
+  shape-short z = rw (drop-of-length-le l h) (go owed z)
+    where
+      go : (k : ℕ) → (k ≡ 0 → ⊥) → shapeFrom edition count [] k i ≡ Bad Unfinished i
+      go zero n = absurd (n refl)
+      go (suc k) n = refl
+
+-- the row that code reads is the table's
+pub in-table : (s : List ℕ) (base n i : ℕ) (r : List ℕ) → i < n → r ≡ read termRow (drop (base + 8 * i) s) → (i < length (reads termRow n (drop base s))) × (getD (reads termRow n (drop base s)) i [] ≡ r)
+in-table s base n i r h e = (omega (arith, rows-length termRow n (drop base s)), term-rows-at n i base s [] h ∙ sym e)
+
+-- Whole tables ---------------------------------------------------------------------------------------------------
+
+unless-whole : (o : Option Fault) (i : ℕ) (s : Shape) → unless-bad o i s ≡ Whole → s ≡ Whole
+unfolding unless-bad
+unless-whole none i s e = e
+unless-whole (some f) i s e = let z : _≡_ {A = ℕ} 0 1 = cc in absurd (omega arith)
+
+whole-sizes : (edition count : ℕ) (t : List (List ℕ)) (owed i : ℕ) → shapeFrom edition count t owed i ≡ Whole → sizes (kids owed (trees (map rowOf t))) ≡ length t
+unfolding shapeFrom kids trees size
+whole-sizes edition count [] zero i e = refl
+whole-sizes edition count [] (suc owed) i e = let z : _≡_ {A = ℕ} 0 1 = cc in absurd (omega arith)
+whole-sizes edition count (r ∷ t) zero i e =
+    let q = unless-whole (rowFault edition count r) i (Bad Behind i) e in
+    let z : _≡_ {A = ℕ} 0 1 = cc in
+    absurd (omega arith)
+whole-sizes edition count (r ∷ t) (suc owed) i e =
+    let a = arity (rowOf r .head) in
+    let q = whole-sizes edition count t (owed + a) (suc i) (unless-whole (rowFault edition count r) i (shapeFrom edition count t (owed + a) (suc i)) e) in
+    omega (arith, sizes-split a owed (trees (map rowOf t)))
+
+whole-within : (edition count : ℕ) (t : List (List ℕ)) (owed i : ℕ) → shapeFrom edition count t owed i ≡ Whole → (j : ℕ) → j < length t → j + size (treeAt (map rowOf t) j) ≤ length t
+unfolding shapeFrom kids trees size treeAt top
+whole-within edition count [] owed i e j h = absurd (omega arith)
+whole-within edition count (r ∷ t) zero i e j h =
+    let q = unless-whole (rowFault edition count r) i (Bad Behind i) e in
+    let z : _≡_ {A = ℕ} 0 1 = cc in
+    absurd (omega arith)
+whole-within edition count (r ∷ t) (suc owed) i e zero h =
+    let a = arity (rowOf r .head) in
+    let q = whole-sizes edition count t (owed + a) (suc i) (unless-whole (rowFault edition count r) i (shapeFrom edition count t (owed + a) (suc i)) e) in
+    omega (arith, sizes-split a owed (trees (map rowOf t)))
+whole-within edition count (r ∷ t) (suc owed) i e (suc j) h =
+    let a = arity (rowOf r .head) in
+    let q = whole-within edition count t (owed + a) (suc i) (unless-whole (rowFault edition count r) i (shapeFrom edition count t (owed + a) (suc i)) e) j (omega arith) in
+    omega arith
+
+-- WHAT A SHAPE CHECK TELLS: the rows are one tree, and each row's tree ends within them
+pub whole-closed : (edition count : ℕ) (t : List (List ℕ)) → shape edition count t ≡ Whole → Closed (map rowOf t) (length t)
+unfolding shape treeAt kids top size blank
+whole-closed edition count t e =
+    record { one = sym (first (trees (map rowOf t))) ∙ whole-sizes edition count t 1 0 e; within = whole-within edition count t 1 0 e }
+  where
+    first : (ts : List Tree) → sizes (kids 1 ts) ≡ size (top ts)
+    first [] = refl
+    first (t ∷ ts) = omega arith
+
+-- the same of a table of bytes
+pub bytes-closed : (edition count rows base : ℕ) (s : List ℕ) → shape edition count (reads termRow rows (drop base s)) ≡ Whole → Closed (map rowOf (reads termRow rows (drop base s))) rows
+bytes-closed edition count rows base s e = rw (rows-length termRow rows (drop base s)) at (whole-closed edition count (reads termRow rows (drop base s)) e)
+
+-- Ends -----------------------------------------------------------------------------------------------------------
+
+pub hop-on : (es : List ℕ) (at n m : ℕ) → n ≡ suc m → hop es at n ≡ hop es (getD es at 0) m
+unfolding hop
+hop-on es at n m e = rw e refl
+
+pub hops-on : (es : List ℕ) (at n m : ℕ) → n ≡ suc m → HopsIn es at n → (at < length es) × HopsIn es (getD es at 0) m
+unfolding HopsIn
+hops-on es at zero m e h = absurd (omega arith)
+hops-on es at (suc k) m e h = let q : k ≡ m = omega arith in subst (λ (x : ℕ). (at < length es) × HopsIn es (getD es at 0) x) q h
+
+pub hop-none : (es : List ℕ) (at n : ℕ) → n ≡ 0 → hop es at n ≡ at
+unfolding hop
+hop-none es at n e = rw e refl
+
+pub size-some : (t : Tree) → 1 ≤ size t
+unfolding size
+size-some (node h ty f) = omega arith
+
+-- the entries from row j on are right
+abbrev pub EndsFrom : List Row → ℕ → ℕ → List ℕ → Type 0
+EndsFrom l j rows es = (p : ℕ) → j ≤ p → p < rows → getD es p 0 ≡ p + size (treeAt l p)
+
+pub grove-none : (l : List Row) (at : ℕ) → sizes (grove l at 0) ≡ 0
+unfolding grove kids size
+grove-none l at = refl
+
+pub grove-size : (l : List Row) (at n : ℕ) → sizes (grove l at (suc n)) ≡ size (treeAt l at) + sizes (grove l (at + size (treeAt l at)) n)
+unfolding size
+grove-size l at n = ap sizes (grove-more l at n)
+
+module _ (l : List Row) (rows j : ℕ) (es : List ℕ) (right : EndsFrom l j rows es) where
+  pub hop-ends : (at n : ℕ) → j ≤ at → at + sizes (grove l at n) ≤ rows → hop es at n ≡ at + sizes (grove l at n)
+  unfolding hop
+  hop-ends at zero g h = omega (arith, grove-none l at)
+  hop-ends at (suc n) g h =
+      let z = grove-size l at n in
+      let e = right at g (omega (arith, size-some (treeAt l at))) in
+      rw e (hop-ends (at + size (treeAt l at)) n (omega arith) (omega arith) ∙ omega arith)
+
+  pub hops-ends : (at n : ℕ) → rows ≤ length es → j ≤ at → at + sizes (grove l at n) ≤ rows → HopsIn es at n
+  unfolding HopsIn
+  hops-ends at zero k g h = tt
+  hops-ends at (suc n) k g h =
+      let z = grove-size l at n in
+      let e = right at g (omega (arith, size-some (treeAt l at))) in
+      (omega (arith, size-some (treeAt l at)), rw e (hops-ends (at + size (treeAt l at)) n k (omega arith) (omega arith)))
+
+  pub ends-set : (i v : ℕ) → j ≡ suc i → i < length es → v ≡ i + size (treeAt l i) → EndsFrom l i rows (set es i v)
+  ends-set i v e h q p g b =
+      elim (ℕ-discrete p i) [
+        | yes k ↦ rw k (getD-set-same es i v 0 h ∙ q)
+        | no k ↦ getD-set-other es i p v 0 k ∙ right p (omega arith) b
+      ]
+
+-- THE LINK at a table of bytes: the tree at row i is the row read there over the trees from the next row on
+module _ (s : List ℕ) (base rows i : ℕ) (r : List ℕ) (h : i < rows) (e : r ≡ read termRow (drop (base + 8 * i) s)) where
+  abbrev terms : List Row
+  terms = map rowOf (reads termRow rows (drop base s))
+
+  pub row-in : (i < length terms) × (getD terms i (rowOf r) ≡ rowOf r)
+  row-in =
+      let g = in-table s base rows i r h e in
+      let t = reads termRow rows (drop base s) in
+      (omega (arith, g .0, length-map t rowOf), List·getD-map rowOf t i r ∙ ap rowOf (term-rows-at rows i base s r h ∙ sym e))
+
+  pub tree-here : treeAt terms i ≡ node (rowOf r .head) (rowOf r .type) (grove terms (i + 1) (arity (rowOf r .head)))
+  tree-here = tree-row terms i (rowOf r) (rowOf r) (row-in .0) (row-in .1)
+
+  pub size-here : size (treeAt terms i) ≡ 1 + sizes (grove terms (i + 1) (arity (rowOf r .head)))
+  unfolding size
+  size-here = ap size tree-here ∙ omega arith

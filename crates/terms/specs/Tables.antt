@@ -1,0 +1,32 @@
+-- The fault that code names of a row, and where the trees of a table end. Assumes nothing.
+use Prim.Native.Nat.{ℕ, zero, suc, _+_, _≤_, _<_}
+use mathlib.Core.Path.{_≡_}
+use mathlib.Core.List.{List}
+use mathlib.Core.Option.{Option, none, some}
+use lib.ListN.{length, getD}
+use Rattle.meaning.specs.declared.Fault.{Fault}
+use Rattle.meaning.specs.Terms.{Row, size, treeAt}
+use Rattle.terms.specs.declared.Faulty.{Faulty}
+use Rattle.terms.specs.declared.Faulty.the-variants as variants
+
+abbrev pub faultOf : Faulty → Option Fault
+faultOf variants.Sane = none
+faultOf (variants.Faulty f) = some f
+
+-- the rows are one tree, and each row's tree ends within them
+pub record Closed (l : List Row) (rows : ℕ) : Type 0 where
+  pub one : size (treeAt l 0) ≡ rows
+  pub within : (j : ℕ) → j < rows → j + size (treeAt l j) ≤ rows
+
+-- the array has for each row the row behind its tree
+abbrev pub Ends : List Row → ℕ → List ℕ → Type 0
+Ends l rows es = (j : ℕ) → j < rows → getD es j 0 ≡ j + size (treeAt l j)
+
+-- n entries on, each of which names the next; and that each of them is there
+unfoldable pub hop : List ℕ → ℕ → ℕ → ℕ
+hop es at zero = at
+hop es at (suc n) = hop es (getD es at 0) n
+
+unfoldable pub HopsIn : List ℕ → ℕ → ℕ → Type 0
+HopsIn es at zero = Unit {0}
+HopsIn es at (suc n) = (at < length es) × HopsIn es (getD es at 0) n

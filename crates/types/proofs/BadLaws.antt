@@ -1,0 +1,138 @@
+-- The first bad row: each test of a row, and a turn of the loop over the table. Assumes nothing.
+use Prim.Native.Nat.{ℕ, zero, suc, _+_, _*_, _<_, _≤_}
+use mathlib.Core.Path.{_≡_, refl, ap, sym, _∙_}
+use mathlib.Core.Bool.{Bool, true, false, cond, false≢true}
+use mathlib.Core.List.{List, [], _∷_, _++_}
+use mathlib.Core.Option.{Option, none, some}
+use native.Mathlib.Omega.{arith}
+use native.Mathlib.Numerals.{add-one}
+use native.Mathlib.Decide.{ℕ-discrete}
+use borrow.Author.Tests.{eq-eqb, ne-eqb, ltb-true, lt-ltb, le-ltb, lt-leb, le-leb}
+use lib.Dec.{eqb, ltb, leb}
+use lib.ListN.{length, take, drop, getD, replicate, drop-of-length-le}
+use lib.Seq.{drop-cons, take-suc, length-take-le}
+use Rattle.meaning.specs.Bytes.{_∧ᵇ_, within, zeros, Layout, width, reads, typeRow}
+use Rattle.meaning.specs.Types.{Form, absent, formNo, partsNo, result, parts, types, names, formOf, every, below, groundForm, ground, lastForm, fieldsOk, fresh, groundCall, typeOk, badTypeFrom, badType}
+use Rattle.meaning.proofs.Tests.{left, right}
+use Rattle.layout.proofs.Laws.{rows-length}
+use Rattle.types.specs.Table.{table, functionOk, namesOk, partsGround, Truthful}
+use Rattle.types.proofs.Laws.{form-row, form-absent}
+use Rattle.types.proofs.Checks.{fields-function}
+use Rattle.types.proofs.GroundLaws.{ground-parts, ground-agree, partGround}
+
+-- a number beyond the table is not ground
+pub ground-beyond : (s : List ℕ) (start count t : ℕ) → count ≤ t → ground (formOf (table s start count)) t ≡ false
+unfolding groundForm
+ground-beyond s start count t h = ground-parts _ t ∙ ap (groundForm (partGround (formOf (table s start count)) t)) (form-absent s start count t h)
+
+-- Foreign functions ----------------------------------------------------------------------------------------------
+
+module _ (form : ℕ → Form) (r : List ℕ) (f : ℕ) (e : f ≡ formNo r) where
+  pub call-other : (f ≡ 7 → ⊥) → groundCall form r ≡ true
+  unfolding groundCall
+  call-other n = rw (← e, ne-eqb f 7 n)
+
+  module _ (q : f ≡ 7) (v : ℕ) (g : v ≡ result r) where
+    pub call-parts : ground form v ≡ true → groundCall form r ≡ partsGround form r
+    unfolding groundCall partsGround _∧ᵇ_
+    call-parts k = rw (← e, q, ← g, k)
+
+    pub call-result : ground form v ≡ false → groundCall form r ≡ false
+    unfolding groundCall _∧ᵇ_
+    call-result k = rw (← e, q, ← g, k)
+
+-- what is asked of a foreign function's row goes by the rows below it
+every-agree : (p q : ℕ → Bool) (i : ℕ) (l : List ℕ) → every (below i) l ≡ true → ((t : ℕ) → t < i → p t ≡ q t) → every p l ≡ every q l
+unfolding every
+every-agree p q i [] b h = refl
+every-agree p q i (x ∷ xs) b h =
+    let c : ltb x i ≡ true = unfold below in left (ltb x i) (every (below i) xs) b in
+    rw (h x (ltb-true x i c), every-agree p q i xs (right (below i x) (every (below i) xs) b) h)
+
+every-last : (a b c d : Bool) → (a ∧ᵇ b ∧ᵇ c ∧ᵇ d) ≡ true → (b ≡ true) × (d ≡ true)
+every-last a b c d e = (left b (c ∧ᵇ d) (right a (b ∧ᵇ c ∧ᵇ d) e), right c d (right b (c ∧ᵇ d) (right a (b ∧ᵇ c ∧ᵇ d) e)))
+
+fields-zeros : (i : ℕ) (r : List ℕ) → fieldsOk i r ≡ true → zeros (drop (3 + 2 * partsNo r) r) ≡ true
+unfolding fieldsOk
+fields-zeros i r h = left _ _ h
+
+call-below : (i : ℕ) (r : List ℕ) → formNo r ≡ 7 → fieldsOk i r ≡ true → (result r < i) × (every (below i) (types (parts r)) ≡ true)
+unfolding functionOk below
+call-below i r e h =
+    let z : functionOk i r ≡ true = sym (fields-function i r (formNo r) (partsNo r) refl refl (fields-zeros i r h) (omega arith) (λ q. omega arith) (λ q. omega arith)) ∙ h in
+    let p = every-last (leb (partsNo r) 8) (below i (result r)) (namesOk (names (parts r))) (every (below i) (types (parts r))) z in
+    (ltb-true (result r) i (p .0), p .1)
+
+forms-agree : (s : List ℕ) (start count i p : ℕ) → i ≤ count → p < i → formOf (table s start i) p ≡ formOf (table s start count) p
+forms-agree s start count i p h k = form-row s start i p k ∙ sym (form-row s start count p (omega arith))
+
+call-same : (f g : ℕ → Form) (i : ℕ) (r : List ℕ) → formNo r ≡ 7 → (result r < i) × (every (below i) (types (parts r)) ≡ true) → ((t : ℕ) → t < i → ground f t ≡ ground g t) → groundCall f r ≡ groundCall g r
+unfolding groundCall
+call-same f g i r q b a = rw (q, a (result r) (b .0), every-agree (ground f) (ground g) i (types (parts r)) (b .1) a)
+
+pub call-agree : (s : List ℕ) (start count i : ℕ) (r : List ℕ) → i ≤ count → fieldsOk i r ≡ true → groundCall (formOf (table s start i)) r ≡ groundCall (formOf (table s start count)) r
+call-agree s start count i r h f =
+    elim (ℕ-discrete (formNo r) 7) [
+      | no n ↦ call-other _ r (formNo r) refl n ∙ sym (call-other _ r (formNo r) refl n)
+      | yes q ↦ call-same _ _ i r q (call-below i r q f) (λ t l. ground-agree _ _ t (λ p k. forms-agree s start count i p h (omega arith)))
+    ]
+
+-- A row --------------------------------------------------------------------------------------------------------
+
+module _ (edition : ℕ) (old : List (List ℕ)) (r : List ℕ) (f last : ℕ) (e : f ≡ formNo r) (g : last ≡ lastForm edition) where
+  pub ok-none : f ≡ 0 → typeOk edition old r ≡ false
+  unfolding typeOk within _∧ᵇ_
+  ok-none q = rw (← e, q)
+
+  pub ok-unknown : last < f → typeOk edition old r ≡ false
+  unfolding typeOk within _∧ᵇ_
+  ok-unknown q = rw (← e, ← g, le-leb 1 f (omega arith), lt-leb f last q)
+
+  module _ (a : f ≡ 0 → ⊥) (b : f ≤ last) where
+    pub ok-fields : fieldsOk (length old) r ≡ false → typeOk edition old r ≡ false
+    unfolding typeOk within _∧ᵇ_
+    ok-fields q = rw (← e, ← g, le-leb 1 f (omega arith), le-leb f last b, q)
+
+    pub ok-twice : fieldsOk (length old) r ≡ true → fresh old r ≡ false → typeOk edition old r ≡ false
+    unfolding typeOk within _∧ᵇ_
+    ok-twice q k = rw (← e, ← g, le-leb 1 f (omega arith), le-leb f last b, q, k)
+
+    pub ok-call : fieldsOk (length old) r ≡ true → fresh old r ≡ true → typeOk edition old r ≡ groundCall (formOf old) r
+    unfolding typeOk within _∧ᵇ_
+    ok-call q k = rw (← e, ← g, le-leb 1 f (omega arith), le-leb f last b, q, k)
+
+-- The table ------------------------------------------------------------------------------------------------------
+
+pub rows-take : (l : Layout) (n i : ℕ) (s : List ℕ) → i ≤ n → take i (reads l n s) ≡ reads l i s
+unfolding reads
+rows-take l n zero s h = refl
+rows-take l zero (suc i) s h = absurd (omega arith)
+rows-take l (suc n) (suc i) s h = rw (rows-take l n i (drop (width l) s) (omega arith))
+
+module _ (edition : ℕ) (rows : List (List ℕ)) (i : ℕ) where
+  module _ (r : List ℕ) (h : i < length rows) (e : getD rows i [] ≡ r) where
+    pub bad-here : typeOk edition (take i rows) r ≡ false → badTypeFrom edition (take i rows) (drop i rows) ≡ some i
+    unfolding badTypeFrom
+    bad-here q = rw (drop-cons rows i [] h, e, q, length-take-le i rows (omega arith))
+
+    pub bad-on : typeOk edition (take i rows) r ≡ true → badTypeFrom edition (take i rows) (drop i rows) ≡ badTypeFrom edition (take (i + 1) rows) (drop (i + 1) rows)
+    unfolding badTypeFrom
+    bad-on q = rw (add-one i, drop-cons rows i [] h, e, q, take-suc rows i [] h, e)
+
+  pub bad-end : length rows ≤ i → badTypeFrom edition (take i rows) (drop i rows) ≡ none
+  unfolding badTypeFrom
+  bad-end h = rw (drop-of-length-le rows {i = i} h)
+
+pub bad-all : (edition : ℕ) (rows : List (List ℕ)) → badTypeFrom edition (take 0 rows) (drop 0 rows) ≡ badType edition rows
+unfolding badType
+bad-all edition rows = refl
+
+-- a memo of zeros says nothing
+zero-at : (n t : ℕ) → _≡_ {A = ℕ} (getD (replicate n 0) t 0) 0
+zero-at zero t = refl
+zero-at (suc n) zero = refl
+zero-at (suc n) (suc t) = zero-at n t
+
+pub says-nothing : (n : ℕ) (form : ℕ → Form) → Truthful (replicate n 0) form
+unfolding Truthful
+says-nothing n form t = let z = zero-at n t in (λ e. absurd (omega arith), λ e. absurd (omega arith))

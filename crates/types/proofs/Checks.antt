@@ -1,0 +1,223 @@
+-- A turn of each loop over a type row or the table. Assumes nothing.
+use Prim.Native.Nat.{ℕ, zero, suc, _+_, _*_, _<_, _≤_}
+use mathlib.Core.Path.{_≡_, refl, ap, sym, _∙_}
+use mathlib.Core.Bool.{Bool, true, false, cond, not}
+use mathlib.Core.List.{List, [], _∷_}
+use native.Mathlib.Omega.{arith}
+use native.Mathlib.Numerals.{add-one}
+use borrow.Author.Tests.{eq-eqb, ne-eqb, lt-ltb, le-ltb, le-leb, lt-leb}
+use lib.Dec.{eqb, leb, ltb}
+use lib.ListN.{length, take, drop, getD, drop-of-length-le}
+use lib.Seq.{drop-cons}
+use Rattle.meaning.specs.Bytes.{_∧ᵇ_, within, zeros}
+use Rattle.meaning.specs.Types.{formNo, partsNo, result, parts, names, types, lastForm, every, nonzero, member, distinct, below, fieldsOk, sameNumbers, fresh}
+use Rattle.types.specs.Table.{plainOk, listOk, tupleOk, functionOk, namesOk, firstNames, firstTypes}
+
+pub last-other : (e : ℕ) → (e ≡ 1 → ⊥) → lastForm e ≡ 0
+unfolding lastForm
+last-other zero h = refl
+last-other (suc zero) h = absurd (h refl)
+last-other (suc (suc e)) h = refl
+
+-- a test of all elements from the k-th on, where v is the k-th
+module _ (l : List ℕ) (k v : ℕ) (h : k < length l) (e : getD l k 0 ≡ v) where
+  pub zeros-no : (v ≡ 0 → ⊥) → zeros (drop k l) ≡ false
+  unfolding zeros _∧ᵇ_
+  zeros-no n = rw (drop-cons l k 0 h, e, ne-eqb v 0 n)
+
+  pub zeros-on : v ≡ 0 → zeros (drop k l) ≡ zeros (drop (k + 1) l)
+  unfolding zeros _∧ᵇ_
+  zeros-on q = rw (add-one k, drop-cons l k 0 h, e, eq-eqb v 0 q)
+
+  pub below-no : (t : ℕ) → t ≤ v → every (below t) (drop k l) ≡ false
+  unfolding every below _∧ᵇ_
+  below-no t n = rw (drop-cons l k 0 h, e, le-ltb v t n)
+
+  pub below-on : (t : ℕ) → v < t → every (below t) (drop k l) ≡ every (below t) (drop (k + 1) l)
+  unfolding every below _∧ᵇ_
+  below-on t q = rw (add-one k, drop-cons l k 0 h, e, lt-ltb v t q)
+
+  pub member-yes : (x : ℕ) → v ≡ x → member x (drop k l) ≡ true
+  unfolding member
+  member-yes x q = rw (drop-cons l k 0 h, e, eq-eqb x v (sym q))
+
+  pub member-on : (x : ℕ) → (v ≡ x → ⊥) → member x (drop k l) ≡ member x (drop (k + 1) l)
+  unfolding member
+  member-on x n = rw (add-one k, drop-cons l k 0 h, e, ne-eqb x v (λ q. n (sym q)))
+
+  pub names-zero : v ≡ 0 → namesOk (drop k l) ≡ false
+  unfolding namesOk every nonzero _∧ᵇ_
+  names-zero q = rw (drop-cons l k 0 h, e, lt-leb 1 v (omega arith))
+
+  names-and : (b c : Bool) → (b ∧ᵇ false ∧ᵇ c) ≡ false
+  unfolding _∧ᵇ_
+  names-and true c = refl
+  names-and false c = refl
+
+  pub names-twice : member v (drop (k + 1) l) ≡ true → namesOk (drop k l) ≡ false
+  unfolding namesOk distinct
+  names-twice q = let q′ = rw add-one at q in rw (drop-cons l k 0 h, e, q′) (names-and (every nonzero (v ∷ drop (suc k) l)) _)
+
+  pub names-on : (v ≡ 0 → ⊥) → member v (drop (k + 1) l) ≡ false → namesOk (drop k l) ≡ namesOk (drop (k + 1) l)
+  unfolding namesOk distinct every nonzero _∧ᵇ_
+  names-on n q = let q′ = rw add-one at q in rw (add-one k, drop-cons l k 0 h, e, le-leb 1 v (omega arith), q′)
+
+-- the end of such a loop
+module _ (l : List ℕ) (k : ℕ) (h : length l ≤ k) where
+  pub zeros-end : zeros (drop k l) ≡ true
+  unfolding zeros
+  zeros-end = rw (drop-of-length-le l {i = k} h)
+
+  pub below-end : (t : ℕ) → every (below t) (drop k l) ≡ true
+  unfolding every
+  below-end t = rw (drop-of-length-le l {i = k} h)
+
+  pub member-end : (x : ℕ) → member x (drop k l) ≡ false
+  unfolding member
+  member-end x = rw (drop-of-length-le l {i = k} h)
+
+  pub names-end : namesOk (drop k l) ≡ true
+  unfolding namesOk every distinct _∧ᵇ_
+  names-end = rw (drop-of-length-le l {i = k} h)
+
+-- the numbers of a row behind its first k pairs
+module _ (r : List ℕ) (z : length r ≡ 19) (k : ℕ) where
+  pub rest-name : (v : ℕ) → k < 8 → v ≡ getD r (3 + 2 * k) 0 → (v ≡ 0 → ⊥) → zeros (drop (3 + 2 * k) r) ≡ false
+  rest-name v h e n = zeros-no r (3 + 2 * k) v (omega arith) (sym e) n
+
+  rest-one : (v : ℕ) → k < 8 → v ≡ getD r (3 + 2 * k) 0 → v ≡ 0 → zeros (drop (3 + 2 * k) r) ≡ zeros (drop (4 + 2 * k) r)
+  rest-one v h e q =
+      let f : 3 + 2 * k + 1 ≡ 4 + 2 * k = omega arith in
+      zeros-on r (3 + 2 * k) v (omega arith) (sym e) q ∙ ap (λ (x : ℕ). zeros (drop x r)) f
+
+  pub rest-type : (v w : ℕ) → k < 8 → v ≡ getD r (3 + 2 * k) 0 → v ≡ 0 → w ≡ getD r (4 + 2 * k) 0 → (w ≡ 0 → ⊥) → zeros (drop (3 + 2 * k) r) ≡ false
+  rest-type v w h e q f n = rest-one v h e q ∙ zeros-no r (4 + 2 * k) w (omega arith) (sym f) n
+
+  pub rest-on : (v w : ℕ) → k < 8 → v ≡ getD r (3 + 2 * k) 0 → v ≡ 0 → w ≡ getD r (4 + 2 * k) 0 → w ≡ 0 → zeros (drop (3 + 2 * k) r) ≡ zeros (drop (3 + 2 * (k + 1)) r)
+  rest-on v w h e q f p =
+      let g : 4 + 2 * k + 1 ≡ 3 + 2 * (k + 1) = omega arith in
+      rest-one v h e q ∙ zeros-on r (4 + 2 * k) w (omega arith) (sym f) p ∙ ap (λ (x : ℕ). zeros (drop x r)) g
+
+  pub rest-end : 8 ≤ k → zeros (drop (3 + 2 * k) r) ≡ true
+  rest-end h = zeros-end r (3 + 2 * k) (omega arith)
+
+-- Fields by form -------------------------------------------------------------------------------------------------
+
+and-assoc : (a b c : Bool) → ((a ∧ᵇ b) ∧ᵇ c) ≡ (a ∧ᵇ (b ∧ᵇ c))
+unfolding _∧ᵇ_
+and-assoc true b c = refl
+and-assoc false b c = refl
+
+module _ (i : ℕ) (r : List ℕ) (n : ℕ) (g : n ≡ partsNo r) where
+  pub tuple-none : n ≡ 0 → tupleOk i r ≡ false
+  unfolding tupleOk within _∧ᵇ_
+  tuple-none q = rw (← g, q)
+
+  pub tuple-many : 8 < n → tupleOk i r ≡ false
+  unfolding tupleOk within _∧ᵇ_
+  tuple-many q = rw (← g, le-leb 1 n (omega arith), lt-leb n 8 q)
+
+  pub function-many : 8 < n → functionOk i r ≡ false
+  unfolding functionOk _∧ᵇ_
+  function-many q = rw (← g, lt-leb n 8 q)
+
+  module _ (h : n ≤ 8) where
+    module _ (k : 1 ≤ n) (v : ℕ) (e : v ≡ result r) where
+      pub tuple-result : (v ≡ 0 → ⊥) → tupleOk i r ≡ false
+      unfolding tupleOk within _∧ᵇ_
+      tuple-result q = rw (← g, le-leb 1 n k, le-leb n 8 h, ← e, ne-eqb v 0 q)
+
+      pub tuple-names : v ≡ 0 → zeros (firstNames n r) ≡ false → tupleOk i r ≡ false
+      unfolding tupleOk within parts _∧ᵇ_
+      tuple-names q f = rw (← g, le-leb 1 n k, le-leb n 8 h, ← e, eq-eqb v 0 q, f)
+
+      pub tuple-parts : v ≡ 0 → zeros (firstNames n r) ≡ true → tupleOk i r ≡ every (below i) (firstTypes n r)
+      unfolding tupleOk within parts _∧ᵇ_
+      tuple-parts q f = rw (← g, le-leb 1 n k, le-leb n 8 h, ← e, eq-eqb v 0 q, f)
+
+    module _ (v : ℕ) (e : v ≡ result r) where
+      pub function-result : i ≤ v → functionOk i r ≡ false
+      unfolding functionOk below _∧ᵇ_
+      function-result q = rw (← g, le-leb n 8 h, ← e, le-ltb v i q)
+
+      pub function-names : v < i → namesOk (firstNames n r) ≡ false → functionOk i r ≡ false
+      unfolding functionOk below parts _∧ᵇ_
+      function-names q f = rw (← g, le-leb n 8 h, ← e, lt-ltb v i q, f)
+
+      pub function-parts : v < i → namesOk (firstNames n r) ≡ true → functionOk i r ≡ every (below i) (firstTypes n r)
+      unfolding functionOk parts _∧ᵇ_
+      function-parts q f =
+          let b : below i v ≡ true = unfold below in lt-ltb v i q in
+          rw (← g, le-leb n 8 h, ← e, b, f)
+
+module _ (i : ℕ) (r : List ℕ) (f n : ℕ) (e : f ≡ formNo r) (g : n ≡ partsNo r) where
+  pub fields-rest : zeros (drop (3 + 2 * n) r) ≡ false → fieldsOk i r ≡ false
+  unfolding fieldsOk _∧ᵇ_
+  fields-rest q = rw (← g, q)
+
+  module _ (q : zeros (drop (3 + 2 * n) r) ≡ true) where
+    pub fields-plain : f < 4 → fieldsOk i r ≡ plainOk r
+    unfolding fieldsOk plainOk _∧ᵇ_
+    fields-plain h = rw (← g, q, ← e, lt-ltb f 4 h)
+
+    pub fields-list : f ≡ 4 → fieldsOk i r ≡ listOk i r
+    unfolding fieldsOk listOk _∧ᵇ_
+    fields-list h = rw (← g, q, ← e, h)
+
+    pub fields-tuple : f ≡ 5 → fieldsOk i r ≡ tupleOk i r
+    unfolding fieldsOk tupleOk _∧ᵇ_
+    fields-tuple h = rw (← g, q, ← e, h)
+
+    pub fields-function : 4 ≤ f → (f ≡ 4 → ⊥) → (f ≡ 5 → ⊥) → fieldsOk i r ≡ functionOk i r
+    unfolding fieldsOk functionOk namesOk
+    fields-function h j k =
+        unfold _∧ᵇ_ in rw (← g, q, ← e, le-ltb f 4 h, ne-eqb f 4 j, ne-eqb f 5 k)
+        (ap (λ (b : Bool). leb n 8 ∧ᵇ below i (result r) ∧ᵇ b) (sym (and-assoc (every nonzero (names (parts r))) (distinct (names (parts r))) (every (below i) (types (parts r))))))
+
+-- Equal rows -----------------------------------------------------------------------------------------------------
+
+module _ (l m : List ℕ) (j v w : ℕ) (h : j < length l) (k : j < length m) (e : v ≡ getD l j 0) (f : w ≡ getD m j 0) where
+  pub same-no : (v ≡ w → ⊥) → sameNumbers (drop j l) (drop j m) ≡ false
+  unfolding sameNumbers _∧ᵇ_
+  same-no n = rw (drop-cons l j 0 h, drop-cons m j 0 k, ← e, ← f, ne-eqb v w n)
+
+  pub same-on : v ≡ w → sameNumbers (drop j l) (drop j m) ≡ sameNumbers (drop (suc j) l) (drop (suc j) m)
+  unfolding sameNumbers _∧ᵇ_
+  same-on q = rw (drop-cons l j 0 h, drop-cons m j 0 k, ← e, ← f, eq-eqb v w q)
+
+module _ (r q : List ℕ) (z : length r ≡ 19) (y : length q ≡ 19) (k : ℕ) where
+  pub pairs-end : 8 ≤ k → sameNumbers (drop (3 + 2 * k) r) (drop (3 + 2 * k) q) ≡ true
+  unfolding sameNumbers
+  pairs-end h = rw (drop-of-length-le r {i = 3 + 2 * k} (omega arith), drop-of-length-le q {i = 3 + 2 * k} (omega arith))
+
+  module _ (h : k < 8) (v w : ℕ) (e : v ≡ getD r (3 + 2 * k) 0) (f : w ≡ getD q (3 + 2 * k) 0) where
+    pub pair-name : (v ≡ w → ⊥) → sameNumbers (drop (3 + 2 * k) r) (drop (3 + 2 * k) q) ≡ false
+    pair-name n = same-no r q (3 + 2 * k) v w (omega arith) (omega arith) e f n
+
+    module _ (x u : ℕ) (p : v ≡ w) (e′ : x ≡ getD r (4 + 2 * k) 0) (f′ : u ≡ getD q (4 + 2 * k) 0) where
+      name-on : sameNumbers (drop (3 + 2 * k) r) (drop (3 + 2 * k) q) ≡ sameNumbers (drop (4 + 2 * k) r) (drop (4 + 2 * k) q)
+      name-on =
+          let c : suc (3 + 2 * k) ≡ 4 + 2 * k = omega arith in
+          same-on r q (3 + 2 * k) v w (omega arith) (omega arith) e f p ∙ ap (λ (d : ℕ). sameNumbers (drop d r) (drop d q)) c
+
+      pub pair-type : (x ≡ u → ⊥) → sameNumbers (drop (3 + 2 * k) r) (drop (3 + 2 * k) q) ≡ false
+      pair-type n = name-on ∙ same-no r q (4 + 2 * k) x u (omega arith) (omega arith) e′ f′ n
+
+      pub pair-on : x ≡ u → sameNumbers (drop (3 + 2 * k) r) (drop (3 + 2 * k) q) ≡ sameNumbers (drop (3 + 2 * (k + 1)) r) (drop (3 + 2 * (k + 1)) q)
+      pair-on n =
+          let c : suc (4 + 2 * k) ≡ 3 + 2 * (k + 1) = omega arith in
+          name-on ∙ same-on r q (4 + 2 * k) x u (omega arith) (omega arith) e′ f′ n ∙ ap (λ (d : ℕ). sameNumbers (drop d r) (drop d q)) c
+
+module _ (old : List (List ℕ)) (r : List ℕ) (j : ℕ) where
+  module _ (s : List ℕ) (h : j < length old) (e : getD old j [] ≡ s) where
+    pub fresh-no : sameNumbers s r ≡ true → fresh (drop j old) r ≡ false
+    unfolding fresh _∧ᵇ_
+    fresh-no q = rw (drop-cons old j [] h, e, q)
+
+    pub fresh-on : sameNumbers s r ≡ false → fresh (drop j old) r ≡ fresh (drop (j + 1) old) r
+    unfolding fresh _∧ᵇ_
+    fresh-on q = rw (add-one j, drop-cons old j [] h, e, q)
+
+  pub fresh-end : length old ≤ j → fresh (drop j old) r ≡ true
+  unfolding fresh
+  fresh-end h = rw (drop-of-length-le old {i = j} h)

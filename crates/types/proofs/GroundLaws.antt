@@ -1,0 +1,134 @@
+-- Whether a type is ground goes by its parts, and only by the rows below it; and what a memo may be told. Assumes nothing.
+use Prim.Native.Nat.{ℕ, zero, suc, _+_, _*_, _<_, _≤_}
+use mathlib.Core.Path.{_≡_, refl, ap, sym, _∙_, fun-ext}
+use mathlib.Core.Bool.{Bool, true, false, cond, false≢true}
+use mathlib.Core.List.{List, [], _∷_}
+use native.Mathlib.Omega.{arith}
+use native.Mathlib.Numerals.{add-one}
+use native.Mathlib.Decide.{decLt, ℕ-discrete}
+use borrow.Author.Tests.{ltb-true, lt-ltb, le-ltb}
+use lib.Dec.{eqb, ltb}
+use lib.ListN.{length, take, drop, getD, set, drop-of-length-le}
+use lib.Seq.{drop-cons, getD-set-same, getD-set-other, set-out}
+use Rattle.meaning.specs.Bytes.{_∧ᵇ_}
+use Rattle.meaning.specs.Types.{Form, absent, base, fList, fTuple, fFun, types, formNo, partsNo, result, parts, formRow, every, groundForm, groundBelow, ground}
+use Rattle.types.specs.Table.{mark, Truthful, Told}
+use Rattle.types.proofs.Laws.{row-none, row-str, row-file, row-truth, row-list, row-tuple, row-native, row-foreign, row-beyond}
+
+and-cong : (b x y : Bool) → (b ≡ true → x ≡ y) → (b ∧ᵇ x) ≡ (b ∧ᵇ y)
+unfolding _∧ᵇ_
+and-cong true x y h = h refl
+and-cong false x y h = refl
+
+deep-enough : (form : ℕ → Form) (f g t : ℕ) → t < f → t < g → groundBelow form f t ≡ groundBelow form g t
+unfolding groundBelow
+deep-enough form zero g t h k = absurd (omega arith)
+deep-enough form (suc f) zero t h k = absurd (omega arith)
+deep-enough form (suc f) (suc g) t h k =
+    ap (λ (q : ℕ → Bool). groundForm q (form t)) (fun-ext λ p. and-cong (ltb p t) _ _ (λ e. deep-enough form f g p (omega (arith, ltb-true p t e)) (omega (arith, ltb-true p t e))))
+
+-- a part is ground where its number is smaller and it is ground
+unfoldable pub partGround : (ℕ → Form) → ℕ → ℕ → Bool
+partGround form t p = ltb p t ∧ᵇ ground form p
+
+pub ground-parts : (form : ℕ → Form) (t : ℕ) → ground form t ≡ groundForm (partGround form t) (form t)
+unfolding ground groundBelow partGround
+ground-parts form t =
+    ap (λ (q : ℕ → Bool). groundForm q (form t)) (fun-ext λ p. and-cong (ltb p t) _ _ (λ e. deep-enough form t (suc p) p (ltb-true p t e) (omega arith)))
+
+pub part-low : (form : ℕ → Form) (t p : ℕ) → p < t → partGround form t p ≡ ground form p
+unfolding partGround _∧ᵇ_
+part-low form t p h = rw (lt-ltb p t h)
+
+pub part-high : (form : ℕ → Form) (t p : ℕ) → t ≤ p → partGround form t p ≡ false
+unfolding partGround _∧ᵇ_
+part-high form t p h = rw (le-ltb p t h)
+
+-- by the row's first number f
+module _ (form : ℕ → Form) (t : ℕ) (r : List ℕ) (m : form t ≡ formRow r) (f : ℕ) (e : f ≡ formNo r) where
+  by-row : (x : Form) → formRow r ≡ x → ground form t ≡ groundForm (partGround form t) x
+  by-row x q = ground-parts form t ∙ ap (groundForm (partGround form t)) (m ∙ q)
+
+  pub ground-none : f ≡ 0 → ground form t ≡ false
+  unfolding groundForm
+  ground-none q = by-row _ (row-none r f e q)
+
+  pub ground-plain : (f ≡ 0 → ⊥) → f < 4 → ground form t ≡ true
+  unfolding groundForm
+  ground-plain n h =
+      elim (ℕ-discrete f 1) [
+        | yes q ↦ by-row _ (row-str r f e q)
+        | no a ↦ elim (ℕ-discrete f 2) [ yes q ↦ by-row _ (row-file r f e q) | no b ↦ by-row _ (row-truth r f e (omega arith)) ]
+      ]
+
+  pub ground-list : f ≡ 4 → ground form t ≡ partGround form t (result r)
+  unfolding groundForm
+  ground-list q = by-row _ (row-list r f e q)
+
+  pub ground-tuple : f ≡ 5 → ground form t ≡ every (partGround form t) (types (parts r))
+  unfolding groundForm
+  ground-tuple q = by-row _ (row-tuple r f e q)
+
+  pub ground-other : 4 ≤ f → (f ≡ 4 → ⊥) → (f ≡ 5 → ⊥) → ground form t ≡ false
+  unfolding groundForm
+  ground-other h a b =
+      elim (ℕ-discrete f 6) [
+        | yes q ↦ by-row _ (row-native r f e q)
+        | no c ↦ elim (ℕ-discrete f 7) [ yes q ↦ by-row _ (row-foreign r f e q) | no d ↦ by-row _ (row-beyond r f e (omega arith)) ]
+      ]
+
+-- a test of all parts from the k-th on, where v is the k-th
+module _ (p : ℕ → Bool) (l : List ℕ) (k v : ℕ) (h : k < length l) (e : getD l k 0 ≡ v) where
+  pub every-no : p v ≡ false → every p (drop k l) ≡ false
+  unfolding every _∧ᵇ_
+  every-no q = rw (drop-cons l k 0 h, e, q)
+
+  pub every-on : p v ≡ true → every p (drop k l) ≡ every p (drop (k + 1) l)
+  unfolding every _∧ᵇ_
+  every-on q = rw (add-one k, drop-cons l k 0 h, e, q)
+
+pub every-end : (p : ℕ → Bool) (l : List ℕ) (k : ℕ) → length l ≤ k → every p (drop k l) ≡ true
+unfolding every
+every-end p l k h = rw (drop-of-length-le l {i = k} h)
+
+-- only the rows up to a type's own tell whether it is ground
+agree : (f g : ℕ → Form) (d t : ℕ) → ((p : ℕ) → p ≤ t → f p ≡ g p) → groundBelow f d t ≡ groundBelow g d t
+unfolding groundBelow
+agree f g zero t h = refl
+agree f g (suc d) t h =
+    ap (groundForm _) (h t (omega arith))
+    ∙ ap (λ (q : ℕ → Bool). groundForm q (g t)) (fun-ext λ p. and-cong (ltb p t) _ _ (λ e. agree f g d p (λ u k. h u (omega (arith, ltb-true p t e)))))
+
+pub ground-agree : (f g : ℕ → Form) (t : ℕ) → ((p : ℕ) → p ≤ t → f p ≡ g p) → ground f t ≡ ground g t
+unfolding ground
+ground-agree f g t h = agree f g (suc t) t h
+
+-- The memo -------------------------------------------------------------------------------------------------------
+
+module _ (known : List ℕ) (form : ℕ → Form) (m : Truthful known form) (t : ℕ) where
+  pub said-yes : getD known t 0 ≡ 1 → ground form t ≡ true
+  unfolding Truthful
+  said-yes e = m t .0 e
+
+  pub said-no : getD known t 0 ≡ 2 → ground form t ≡ false
+  unfolding Truthful
+  said-no e = m t .1 e
+
+  marked : (b : Bool) → b ≡ ground form t → (mark b ≡ 1 → ground form t ≡ true) × (mark b ≡ 2 → ground form t ≡ false)
+  marked true e = (λ q. sym e, λ q. absurd (omega arith))
+  marked false e = (λ q. absurd (omega arith), λ q. sym e)
+
+  remembered : (b : Bool) → b ≡ ground form t → Truthful (set known t (mark b)) form
+  unfolding Truthful
+  remembered b e u =
+      elim (ℕ-discrete u t) [
+        | no n ↦ rw (getD-set-other known t u (mark b) 0 n) (m u)
+        | yes q ↦ elim (decLt t (length known)) [
+          | yes h ↦ rw (q, getD-set-same known t (mark b) 0 h) (marked b e)
+          | no h ↦ rw (set-out known t (mark b) (omega arith)) (m u)
+        ]
+      ]
+
+  -- the memo is told of type t
+  pub tells : (known′ : List ℕ) (b r : Bool) → (r ≡ b) × (known′ ≡ set known t (mark b)) → ground form t ≡ b → Told form known′ (ground form t) r
+  tells known′ b r (p, q) e = record { answer = p ∙ sym e; memo = rw q (remembered b (sym e)) }

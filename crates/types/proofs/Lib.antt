@@ -1,0 +1,4 @@
+pub mod Laws
+pub mod Checks
+pub mod GroundLaws
+pub mod BadLaws

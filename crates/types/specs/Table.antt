@@ -1,0 +1,57 @@
+-- Rows of a type table in bytes, the parts of the fields test, and what a memo of ground types may say. Assumes nothing.
+use Prim.Native.Nat.{ℕ, _+_, _*_, _≤_}
+use mathlib.Core.Path.{_≡_}
+use mathlib.Core.Bool.{Bool, true, false}
+use mathlib.Core.List.{List}
+use lib.Dec.{eqb, leb}
+use lib.ListN.{length, take, drop, getD}
+use Rattle.meaning.specs.Bytes.{_∧ᵇ_, within, zeros, read, reads, typeRow}
+use Rattle.meaning.specs.Types.{Param, Form, formOf, types, names, pairs, partsNo, result, parts, every, nonzero, distinct, below, ground}
+
+-- row t of the type rows that begin at base, and the first `count` of them
+abbrev pub typeAt : List ℕ → ℕ → ℕ → List ℕ
+typeAt s base t = read typeRow (drop (base + 36 * t) s)
+
+abbrev pub table : List ℕ → ℕ → ℕ → List (List ℕ)
+table s base count = reads typeRow count (drop base s)
+
+-- names and types of the first n pairs of a row
+abbrev pub firstNames : ℕ → List ℕ → List ℕ
+firstNames n r = names (take n (pairs (drop 3 r)))
+
+abbrev pub firstTypes : ℕ → List ℕ → List ℕ
+firstTypes n r = types (take n (pairs (drop 3 r)))
+
+-- fieldsOk by form: 1 to 3, list, tuple, function
+unfoldable pub plainOk : List ℕ → Bool
+plainOk r = eqb (partsNo r) 0 ∧ᵇ eqb (result r) 0
+
+unfoldable pub listOk : ℕ → List ℕ → Bool
+listOk i r = eqb (partsNo r) 0 ∧ᵇ below i (result r)
+
+unfoldable pub tupleOk : ℕ → List ℕ → Bool
+tupleOk i r = within 1 8 (partsNo r) ∧ᵇ eqb (result r) 0 ∧ᵇ zeros (names (parts r)) ∧ᵇ every (below i) (types (parts r))
+
+unfoldable pub namesOk : List ℕ → Bool
+namesOk xs = every nonzero xs ∧ᵇ distinct xs
+
+unfoldable pub functionOk : ℕ → List ℕ → Bool
+functionOk i r = leb (partsNo r) 8 ∧ᵇ below i (result r) ∧ᵇ namesOk (names (parts r)) ∧ᵇ every (below i) (types (parts r))
+
+-- groundCall's arguments
+unfoldable pub partsGround : (ℕ → Form) → List ℕ → Bool
+partsGround form r = every (ground form) (types (parts r))
+
+-- what a memo says of a type that is ground, and of one that is not
+abbrev pub mark : Bool → ℕ
+mark true = 1
+mark false = 2
+
+-- a memo of types: 1 is said of ground types only, 2 of types that are not
+unfoldable pub Truthful : List ℕ → (ℕ → Form) → Type 0
+Truthful known form = (t : ℕ) → (getD known t 0 ≡ 1 → ground form t ≡ true) × (getD known t 0 ≡ 2 → ground form t ≡ false)
+
+-- what a walk over the table with a memo answers and leaves
+pub record Told (form : ℕ → Form) (known : List ℕ) (due b : Bool) : Type 0 where
+  pub answer : b ≡ due
+  pub memo : Truthful known form

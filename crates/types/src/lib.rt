@@ -1,0 +1,397 @@
+// The type table: what a type row says, which types are ground, and the first bad row.
+use layout::Found;
+ghost use mathlib.Core.Path.{_≡_};
+ghost use mathlib.Core.Bool.{true};
+ghost use Prim.Native.Nat.{_+_, _*_, _≤_, _<_};
+ghost use lib.ListN.{length, take, drop, getD, set};
+ghost use Rattle.meaning.specs.Bytes.{zeros, reads, typeRow};
+ghost use Rattle.meaning.specs.Types.{formNo, partsNo, result, parts, every, below, member, sameNumbers, formOf, ground, lastForm, fieldsOk, fresh, groundCall, typeOk, badType};
+ghost use Rattle.layout.specs.Rows.{found};
+ghost use Rattle.types.specs.Table.{typeAt, table, firstNames, firstTypes, plainOk, listOk, tupleOk, namesOk, functionOk, partsGround, mark, Truthful, Told};
+
+// How many parts row t has: at most eight are there.
+pub fn part_count(types: &[u8], base: usize, t: usize) -> usize
+    requires { ⌜ base + 36 * t + 36 ≤ length (now types) ⌝ }
+    ensures { λ n. ⌜ n ≡ length (parts (typeAt (now (types .entry)) base t)) ⌝ }
+{
+    let n = layout::parts_no(types, base, t) as usize;
+    if 8 < n {
+        return 8;
+    }
+    n
+}
+
+fn last_form(edition: u16) -> u8
+    ensures { λ r. ⌜ r ≡ lastForm edition ⌝ }
+{
+    if edition == 1 {
+        return 7;
+    }
+    0
+}
+
+// Behind the first n pairs of row t all is zero.
+fn rest_zero(types: &[u8], base: usize, t: usize, n: usize) -> bool
+    requires { ⌜ base + 36 * t + 36 ≤ length (now types) ⌝ }
+    ensures { λ b. ⌜ b ≡ zeros (drop (3 + 2 * n) (typeAt (now (types .entry)) base t)) ⌝ }
+{
+    let mut k = n;
+    while k < 8 {
+        if layout::name_no(types, base, t, k) != 0 {
+            return false;
+        }
+        if layout::type_no(types, base, t, k) != 0 {
+            return false;
+        }
+        k += 1;
+    }
+    true
+}
+
+// The first n names of row t are zero.
+fn names_zero(types: &[u8], base: usize, t: usize, n: usize) -> bool
+    requires { ⌜ (base + 36 * t + 36 ≤ length (now types)) × (n ≤ 8) ⌝ }
+    ensures { λ b. ⌜ b ≡ zeros (firstNames n (typeAt (now (types .entry)) base t)) ⌝ }
+{
+    let mut k = 0;
+    while k < n {
+        if layout::name_no(types, base, t, k) != 0 {
+            return false;
+        }
+        k += 1;
+    }
+    true
+}
+
+// The first n types of row t have smaller numbers than t.
+fn parts_below(types: &[u8], base: usize, t: usize, n: usize) -> bool
+    requires { ⌜ (base + 36 * t + 36 ≤ length (now types)) × (n ≤ 8) ⌝ }
+    ensures { λ b. ⌜ b ≡ every (below t) (firstTypes n (typeAt (now (types .entry)) base t)) ⌝ }
+{
+    let mut k = 0;
+    while k < n {
+        if t <= layout::type_no(types, base, t, k) as usize {
+            return false;
+        }
+        k += 1;
+    }
+    true
+}
+
+// The name x stands among the first n of row t, from the k-th on.
+fn name_from(types: &[u8], base: usize, t: usize, n: usize, k: usize, x: u16) -> bool
+    requires { ⌜ (base + 36 * t + 36 ≤ length (now types)) × (n ≤ 8) × (k ≤ n) ⌝ }
+    ensures { λ b. ⌜ b ≡ member x (drop k (firstNames n (typeAt (now (types .entry)) base t))) ⌝ }
+{
+    let mut j = k;
+    while j < n {
+        if layout::name_no(types, base, t, j) == x {
+            return true;
+        }
+        j += 1;
+    }
+    false
+}
+
+// The first n names of row t are nonzero and distinct.
+fn names_ok(types: &[u8], base: usize, t: usize, n: usize) -> bool
+    requires { ⌜ (base + 36 * t + 36 ≤ length (now types)) × (n ≤ 8) ⌝ }
+    ensures { λ b. ⌜ b ≡ namesOk (firstNames n (typeAt (now (types .entry)) base t)) ⌝ }
+{
+    let mut k = 0;
+    while k < n {
+        let x = layout::name_no(types, base, t, k);
+        if x == 0 {
+            return false;
+        }
+        if name_from(types, base, t, n, k + 1, x) {
+            return false;
+        }
+        k += 1;
+    }
+    true
+}
+
+// The fields of row t by its form: plain, list, tuple, function.
+fn plain_ok(types: &[u8], base: usize, t: usize) -> bool
+    requires { ⌜ base + 36 * t + 36 ≤ length (now types) ⌝ }
+    ensures { λ b. ⌜ b ≡ plainOk (typeAt (now (types .entry)) base t) ⌝ }
+{
+    if layout::parts_no(types, base, t) != 0 {
+        return false;
+    }
+    if layout::result_no(types, base, t) != 0 {
+        return false;
+    }
+    true
+}
+
+fn list_ok(types: &[u8], base: usize, t: usize) -> bool
+    requires { ⌜ base + 36 * t + 36 ≤ length (now types) ⌝ }
+    ensures { λ b. ⌜ b ≡ listOk t (typeAt (now (types .entry)) base t) ⌝ }
+{
+    if layout::parts_no(types, base, t) != 0 {
+        return false;
+    }
+    if t <= layout::result_no(types, base, t) as usize {
+        return false;
+    }
+    true
+}
+
+fn tuple_ok(types: &[u8], base: usize, t: usize) -> bool
+    requires { ⌜ base + 36 * t + 36 ≤ length (now types) ⌝ }
+    ensures { λ b. ⌜ b ≡ tupleOk t (typeAt (now (types .entry)) base t) ⌝ }
+{
+    let n = layout::parts_no(types, base, t) as usize;
+    if n == 0 {
+        return false;
+    }
+    if 8 < n {
+        return false;
+    }
+    if layout::result_no(types, base, t) != 0 {
+        return false;
+    }
+    if names_zero(types, base, t, n) {
+        return parts_below(types, base, t, n);
+    }
+    false
+}
+
+fn function_ok(types: &[u8], base: usize, t: usize) -> bool
+    requires { ⌜ base + 36 * t + 36 ≤ length (now types) ⌝ }
+    ensures { λ b. ⌜ b ≡ functionOk t (typeAt (now (types .entry)) base t) ⌝ }
+{
+    let n = layout::parts_no(types, base, t) as usize;
+    if 8 < n {
+        return false;
+    }
+    if t <= layout::result_no(types, base, t) as usize {
+        return false;
+    }
+    if names_ok(types, base, t, n) {
+        return parts_below(types, base, t, n);
+    }
+    false
+}
+
+fn fields_ok(types: &[u8], base: usize, t: usize) -> bool
+    requires { ⌜ base + 36 * t + 36 ≤ length (now types) ⌝ }
+    ensures { λ b. ⌜ b ≡ fieldsOk t (typeAt (now (types .entry)) base t) ⌝ }
+{
+    let form = layout::form_no(types, base, t);
+    let n = layout::parts_no(types, base, t) as usize;
+    if rest_zero(types, base, t, n) {
+        if form < 4 {
+            return plain_ok(types, base, t);
+        }
+        if form == 4 {
+            return list_ok(types, base, t);
+        }
+        if form == 5 {
+            return tuple_ok(types, base, t);
+        }
+        return function_ok(types, base, t);
+    }
+    false
+}
+
+// Rows t and u have the same numbers.
+fn same_row(types: &[u8], base: usize, t: usize, u: usize) -> bool
+    requires { ⌜ (base + 36 * t + 36 ≤ length (now types)) × (base + 36 * u + 36 ≤ length (now types)) ⌝ }
+    ensures { λ b. ⌜ b ≡ sameNumbers (typeAt (now (types .entry)) base t) (typeAt (now (types .entry)) base u) ⌝ }
+{
+    if layout::form_no(types, base, t) != layout::form_no(types, base, u) {
+        return false;
+    }
+    if layout::parts_no(types, base, t) != layout::parts_no(types, base, u) {
+        return false;
+    }
+    if layout::result_no(types, base, t) != layout::result_no(types, base, u) {
+        return false;
+    }
+    same_pairs(types, base, t, u)
+}
+
+// The same of the eight pairs.
+fn same_pairs(types: &[u8], base: usize, t: usize, u: usize) -> bool
+    requires { ⌜ (base + 36 * t + 36 ≤ length (now types)) × (base + 36 * u + 36 ≤ length (now types)) ⌝ }
+    ensures { λ b. ⌜ b ≡ sameNumbers (drop 3 (typeAt (now (types .entry)) base t)) (drop 3 (typeAt (now (types .entry)) base u)) ⌝ }
+{
+    let mut k = 0;
+    while k < 8 {
+        if layout::name_no(types, base, t, k) != layout::name_no(types, base, u, k) {
+            return false;
+        }
+        if layout::type_no(types, base, t, k) != layout::type_no(types, base, u, k) {
+            return false;
+        }
+        k += 1;
+    }
+    true
+}
+
+// No earlier row equals row t.
+fn is_fresh(types: &[u8], base: usize, t: usize) -> bool
+    requires { ⌜ base + 36 * t + 36 ≤ length (now types) ⌝ }
+    ensures { λ b. ⌜ b ≡ fresh (table (now (types .entry)) base t) (typeAt (now (types .entry)) base t) ⌝ }
+{
+    let mut j = 0;
+    while j < t {
+        if same_row(types, base, j, t) {
+            return false;
+        }
+        j += 1;
+    }
+    true
+}
+
+// What is said of type t in the memo.
+fn remember(known: &mut [u8; 256], t: usize, b: bool) -> bool
+    requires { ⌜ t < 256 ⌝ }
+    ensures { λ r. ⌜ (r ≡ b) × (now (known .exit) ≡ set (now (known .entry)) t (mark b)) ⌝ }
+{
+    if b {
+        known[t] = 1;
+        return true;
+    }
+    known[t] = 2;
+    false
+}
+
+// Whether type t is ground, told by going down through its parts; the memo tells of those that are known.
+pub fn ground(types: &[u8], base: usize, count: usize, known: &mut [u8; 256], t: usize) -> bool
+    requires { ⌜ (base + 36 * count ≤ length (now types)) × (count ≤ 256) × (t < count) × Truthful (now known) (formOf (reads typeRow count (drop base (now types)))) ⌝ }
+    ensures { λ b. ⌜ Told (formOf (reads typeRow count (drop base (now (types .entry))))) (now (known .exit)) (ground (formOf (reads typeRow count (drop base (now (types .entry))))) t) b ⌝ }
+{
+    let said = known[t];
+    if said == 1 {
+        return true;
+    }
+    if said == 2 {
+        return false;
+    }
+    let form = layout::form_no(types, base, t);
+    if form == 0 {
+        return remember(known, t, false);
+    }
+    if form < 4 {
+        return remember(known, t, true);
+    }
+    if form == 4 {
+        let e = layout::result_no(types, base, t) as usize;
+        if t <= e {
+            return remember(known, t, false);
+        }
+        let b = ground(types, base, count, known, e);
+        return remember(known, t, b);
+    }
+    if form != 5 {
+        return remember(known, t, false);
+    }
+    let n = part_count(types, base, t);
+    let mut k = 0;
+    while k < n {
+        let p = layout::type_no(types, base, t, k) as usize;
+        if t <= p {
+            return remember(known, t, false);
+        }
+        if ground(types, base, count, known, p) {
+            k += 1;
+        } else {
+            return remember(known, t, false);
+        }
+    }
+    remember(known, t, true)
+}
+
+// The same of any number: one beyond the table is no type.
+pub fn ground_at(types: &[u8], base: usize, count: usize, known: &mut [u8; 256], t: usize) -> bool
+    requires { ⌜ (base + 36 * count ≤ length (now types)) × (count ≤ 256) × Truthful (now known) (formOf (reads typeRow count (drop base (now types)))) ⌝ }
+    ensures { λ b. ⌜ Told (formOf (reads typeRow count (drop base (now (types .entry))))) (now (known .exit)) (ground (formOf (reads typeRow count (drop base (now (types .entry))))) t) b ⌝ }
+{
+    if count <= t {
+        return false;
+    }
+    ground(types, base, count, known, t)
+}
+
+// The arguments of row t are ground.
+fn parts_ground(types: &[u8], base: usize, count: usize, known: &mut [u8; 256], t: usize) -> bool
+    requires { ⌜ (base + 36 * count ≤ length (now types)) × (count ≤ 256) × (t < count) × Truthful (now known) (formOf (table (now types) base count)) ⌝ }
+    ensures { λ b. ⌜ Told (formOf (table (now (types .entry)) base count)) (now (known .exit)) (partsGround (formOf (table (now (types .entry)) base count)) (typeAt (now (types .entry)) base t)) b ⌝ }
+{
+    let n = part_count(types, base, t);
+    let mut k = 0;
+    while k < n {
+        let p = layout::type_no(types, base, t, k) as usize;
+        if ground_at(types, base, count, known, p) {
+            k += 1;
+        } else {
+            return false;
+        }
+    }
+    true
+}
+
+// If row t is a foreign function, its arguments and its result are ground.
+fn ground_call(types: &[u8], base: usize, count: usize, known: &mut [u8; 256], t: usize) -> bool
+    requires { ⌜ (base + 36 * count ≤ length (now types)) × (count ≤ 256) × (t < count) × Truthful (now known) (formOf (table (now types) base count)) ⌝ }
+    ensures { λ b. ⌜ Told (formOf (table (now (types .entry)) base count)) (now (known .exit)) (groundCall (formOf (table (now (types .entry)) base count)) (typeAt (now (types .entry)) base t)) b ⌝ }
+{
+    if layout::form_no(types, base, t) != 7 {
+        return true;
+    }
+    let e = layout::result_no(types, base, t) as usize;
+    if ground_at(types, base, count, known, e) {
+        return parts_ground(types, base, count, known, t);
+    }
+    false
+}
+
+// Row t is good behind the earlier ones.
+fn type_ok(
+    types: &[u8],
+    base: usize,
+    count: usize,
+    edition: u16,
+    known: &mut [u8; 256],
+    t: usize,
+) -> bool
+    requires { ⌜ (base + 36 * count ≤ length (now types)) × (count ≤ 256) × (t < count) × Truthful (now known) (formOf (table (now types) base count)) ⌝ }
+    ensures { λ b. ⌜ Told (formOf (table (now (types .entry)) base count)) (now (known .exit)) (typeOk edition (table (now (types .entry)) base t) (typeAt (now (types .entry)) base t)) b ⌝ }
+{
+    let form = layout::form_no(types, base, t);
+    if form == 0 {
+        return false;
+    }
+    if last_form(edition) < form {
+        return false;
+    }
+    if fields_ok(types, base, t) {
+        if is_fresh(types, base, t) {
+            return ground_call(types, base, count, known, t);
+        }
+        return false;
+    }
+    false
+}
+
+// Refusal 6: the first bad row. Whether a row's type is ground is told before the next row, so that no walk goes deep.
+pub fn bad_type(types: &[u8], base: usize, count: usize, edition: u16) -> Found
+    requires { ⌜ (base + 36 * count ≤ length (now types)) × (count ≤ 256) ⌝ }
+    ensures { λ r. ⌜ found r ≡ badType edition (reads typeRow count (drop base (now (types .entry)))) ⌝ }
+{
+    let mut known = [0u8; 256];
+    let mut i = 0;
+    while i < count {
+        if type_ok(types, base, count, edition, &mut known, i) {
+            ground(types, base, count, &mut known, i);
+            i += 1;
+        } else {
+            return Found::At(i as u32);
+        }
+    }
+    Found::Nothing
+}
