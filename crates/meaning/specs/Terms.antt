@@ -197,11 +197,9 @@ kindFields =
     -- 0, no kind
     none-used
     -- 1 str, 2 file
-    ∷ any-word
-    ∷ any-word
+    ∷ any-word ∷ any-word
     -- 3 true, 4 false
-    ∷ none-used
-    ∷ none-used
+    ∷ none-used ∷ none-used
     -- 5 variable: name
     ∷ a-number
     -- 6 native function
@@ -213,18 +211,13 @@ kindFields =
     -- 9 future: call number
     ∷ a-number
     -- 10 if, 11 fix, 12 nil, 13 cons, 14 isnil
-    ∷ none-used
-    ∷ none-used
-    ∷ none-used
-    ∷ none-used
-    ∷ none-used
+    ∷ none-used ∷ none-used ∷ none-used ∷ none-used ∷ none-used
     -- 15 zip: mask
     ∷ an-n 1 255
     -- 16 tuple: n elements
     ∷ an-n 1 8
     -- 17 project, 18 list project: place
-    ∷ an-n 1 8
-    ∷ an-n 1 8
+    ∷ an-n 1 8 ∷ an-n 1 8
     -- 19 let: name
     ∷ a-number
     ∷ []
