@@ -1,0 +1,7 @@
+//! The makers of input: well-typed programs, sound records, right replies, and the same damaged in known ways.
+
+pub mod files;
+pub mod programs;
+pub mod records;
+pub mod replies;
+pub mod sessions;
