@@ -1,0 +1,97 @@
+/*
+ * tca.h: the proved library for attachment routines, as C sees it.
+ *
+ * Link with libtca.a (tools/native-staticlib tca writes target/native/libtca.a):
+ *
+ *     cc -std=c11 -I include yours.c -L target/native -l:libtca.a
+ *
+ * The library keeps nothing between calls, allocates nothing, and reads and writes nothing but the buffers lent to a
+ * call, so calls on different records may run at the same time on different threads.
+ *
+ * Nothing checks these declarations against the proved source, and what is proved of a function is proved for calls
+ * that keep to these rules:
+ *
+ *   - A buffer is an address and a length in bytes. All bytes of that length can be read, and those of a buffer that is
+ *     not const can be written, until the call returns.
+ *   - No two buffers of one call share a byte, and nothing else writes to them during the call.
+ *   - NULL may stand for the address of a buffer of length 0, and of no other. Nothing is read or written behind it.
+ *   - Any address will do; none needs to be aligned.
+ *
+ * Within them, every content and every length is allowed: what a function cannot take it refuses, and changes no byte.
+ */
+#ifndef TCA_H
+#define TCA_H
+
+#include <stddef.h>
+#include <stdint.h>
+
+#ifdef __cplusplus
+extern "C" {
+#endif
+
+/* A program file: a head, then its type rows, then its term rows. */
+#define TCA_FILE_HEAD_BYTES 10 /* mark, version, a zero byte, type count, row count */
+#define TCA_TYPE_BYTES 36      /* a type row */
+#define TCA_ROW_BYTES 8        /* a term row */
+#define TCA_MAX_TYPES 256      /* a file has 1 to 256 types */
+#define TCA_MAX_FILE_ROWS 1024 /* a file has 1 to 1,024 rows */
+
+/* The length of the longest program file: 17,418 bytes. A longer one is always refused. */
+#define TCA_MAX_FILE_BYTES (TCA_FILE_HEAD_BYTES + TCA_MAX_TYPES * TCA_TYPE_BYTES + TCA_MAX_FILE_ROWS * TCA_ROW_BYTES)
+
+/* A run record: always exactly this long. It holds the types, the open calls and the rows that the term has come to. */
+#define TCA_RECORD_BYTES 26132
+#define TCA_MAX_RECORD_ROWS 2048 /* rows that a term may grow to */
+#define TCA_MAX_OPEN_CALLS 64    /* calls sent and not yet replied to */
+
+/* Why a call is refused: the value of tca_verdict's refusal. "With its place" means that the verdict's place is the
+ * first such row, counted from 0; where nothing is said, place is 0. */
+enum tca_refusal {
+    TCA_ACCEPTED = 0, /* not refused; place is 0 */
+
+    /* What tca_load gives. It tests in this order, but that a file too short for a head is TCA_SIZE at once, and one of
+     * another length than its counts need is TCA_SIZE only after TCA_COUNT. */
+    TCA_LENGTH = 1,   /* the record is not TCA_RECORD_BYTES long */
+    TCA_SIZE = 2,     /* the file has under TCA_FILE_HEAD_BYTES bytes, or not the length that its counts need */
+    TCA_MARK = 3,     /* the file does not begin with the letters TCA */
+    TCA_VERSION = 4,  /* the file's version is not 1 */
+    TCA_COUNT = 5,    /* the head's zero byte is not zero, or a count is 0 or over its limit */
+    TCA_TYPE_ROW = 6, /* a bad type row; with its place among the type rows */
+    TCA_ROW = 7,      /* a row of bad kind, field or type number, or behind the tree's end; with its place.
+                         If the tree is unfinished, place is the row count */
+    TCA_FUTURE = 8,   /* a future, which no program may hold; with its place */
+    TCA_TYPING = 9,   /* a row that fails typing; with its place */
+
+    /* Reserved for run and reply. tca_load gives none of these. */
+    TCA_UNSOUND = 10,      /* the record is not sound */
+    TCA_HEADER = 11,       /* the reply's head or length */
+    TCA_NOT_OPEN = 12,     /* the reply's number is not open */
+    TCA_REPLY_ROW = 13,    /* a reply row, as TCA_ROW; with its place */
+    TCA_REPLY_KIND = 14,   /* a reply row of a kind that no reply may hold; with its place */
+    TCA_REPLY_TYPING = 15, /* a reply row that fails typing; with its place */
+    TCA_REPLY_ROOM = 16    /* the term would pass TCA_MAX_RECORD_ROWS rows */
+};
+
+/* What a load gives: 0 and 0 if it is accepted, else the refusal and its place. */
+typedef struct {
+    uint32_t refusal; /* one of enum tca_refusal */
+    uint32_t place;   /* a row, counted from 0, or 0 where the refusal names none */
+} tca_verdict;
+
+/*
+ * Loads a program file into a record.
+ *
+ *   file, file_len      the whole program file, and nothing after it
+ *   record, record_len  where the record goes: TCA_RECORD_BYTES bytes, of any old content
+ *
+ * Accepted: refusal TCA_ACCEPTED, place 0, and every byte of the record is written: the file's types and rows, no open
+ * call, next call number 1. Refused: refusal TCA_LENGTH to TCA_TYPING, and no byte of the record is changed. The file
+ * is never changed.
+ */
+tca_verdict tca_load(const uint8_t *file, size_t file_len, uint8_t *record, size_t record_len);
+
+#ifdef __cplusplus
+}
+#endif
+
+#endif

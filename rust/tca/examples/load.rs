@@ -1,0 +1,28 @@
+//! Loads a program file and says `accepted`, or why it is refused and at which row.
+
+use std::process::ExitCode;
+
+fn main() -> ExitCode {
+    let Some(name) = std::env::args_os().nth(1) else {
+        eprintln!("usage: load FILE");
+        return ExitCode::from(2);
+    };
+    let file = match std::fs::read(&name) {
+        Ok(file) => file,
+        Err(error) => {
+            eprintln!("{}: {error}", name.to_string_lossy());
+            return ExitCode::from(2);
+        }
+    };
+    let mut record = vec![0; tca::RECORD_BYTES];
+    match tca::load(&file, &mut record) {
+        Ok(()) => {
+            println!("accepted");
+            ExitCode::SUCCESS
+        }
+        Err(refused) => {
+            println!("refused: {refused}");
+            ExitCode::FAILURE
+        }
+    }
+}
