@@ -1,11 +1,11 @@
 -- Tests and what they tell. Assumes nothing.
-use Prim.Native.Nat.{ℕ, zero, suc, _+_, _≤_, _<_}
-use mathlib.Core.Path.{_≡_, refl, ap, sym, _∙_}
-use mathlib.Core.Bool.{Bool, true, false, not, cond, false≢true}
+use Prim.Native.Nat.{ℕ, _≤_}
+use mathlib.Core.Path.{_≡_, refl}
+use mathlib.Core.Bool.{Bool, true, false, false≢true}
 use mathlib.Core.List.{List, [], _∷_}
 use mathlib.Core.Option.{Option, none, some}
-use lib.Dec.{T, eqb, leb, ltb, eqb→eq, eqb-refl, leb→le, le→leb, ltb→lt, lt→ltb}
-use borrow.Author.Tests.{eq-eqb, eqb-true, le-leb, leb-true, lt-ltb, ltb-true}
+use lib.Dec.{eqb, leb}
+use borrow.Author.Tests.{eq-eqb, eqb-true, le-leb, leb-true}
 use Rattle.meaning.specs.Bytes.{_∧ᵇ_, within}
 use Rattle.meaning.specs.Types.{sameNumbers}
 use Rattle.meaning.specs.Steps.{_∨ᵇ_}
@@ -45,15 +45,8 @@ unfolding _∨ᵇ_
 neither-r true b e = cc
 neither-r false b e = e
 
-pub T-of : (b : Bool) → b ≡ true → T b
-T-of b e = rw e tt
-
-pub of-T : (b : Bool) → T b → b ≡ true
-of-T true t = refl
-of-T false t = absurd t
-
 pub eq-same : (n : ℕ) → eqb n n ≡ true
-eq-same n = of-T (eqb n n) (eqb-refl n)
+eq-same n = eq-eqb n n refl
 
 pub within-if : (a b n : ℕ) → within a b n ≡ true → (a ≤ n) × (n ≤ b)
 unfolding within
@@ -62,13 +55,6 @@ within-if a b n e = (leb-true a n (left _ _ e), leb-true n b (right _ _ e))
 pub within-of : (a b n : ℕ) → a ≤ n → n ≤ b → within a b n ≡ true
 unfolding within
 within-of a b n h k = both _ _ (le-leb a n h) (le-leb n b k)
-
--- which way a test went
-pub cond-true : {A : Type 0} (b : Bool) (x y : A) → b ≡ true → cond b x y ≡ x
-cond-true b x y e = rw e refl
-
-pub cond-false : {A : Type 0} (b : Bool) (x y : A) → b ≡ false → cond b x y ≡ y
-cond-false b x y e = rw e refl
 
 pub numbers-is : (a b : List ℕ) → sameNumbers a b ≡ true → a ≡ b
 unfolding sameNumbers
