@@ -6,29 +6,18 @@ use native.Mathlib.Omega.{arith}
 use native.Mathlib.Nat.{add-zero, add-assoc, add-comm, mul-zero, mul-suc, le-of-eq}
 use native.Mathlib.Numerals.{add-one}
 use lib.ListN.{length, getD, take, drop, set, replicate, length-drop, length-replicate, getD-replicate}
-use lib.Seq.{drop-drop, getD-drop, take-all, paste, paste-suc}
-use Rattle.meaning.specs.Bytes.{Layout, number, width, read, reads, typeRow, termRow}
+use lib.Seq.{drop-drop, getD-drop, take-all, paste, paste-suc, sets, sets-eq}
+use Rattle.meaning.specs.Bytes.{Layout, number, spell, width, read, write, reads, typeRow, termRow, recordHead}
+use Rattle.meaning.specs.Records.{recordMark}
+use Rattle.meaning.proofs.Layouts.{number-at, length-reads, reads-at}
 use Rattle.meaning.specs.Types.{formNo, partsNo, result}
 use Rattle.meaning.specs.Terms.{kindNo, nNo, typeNo, wordNo}
 use Rattle.layout.specs.declared.Row.{Row}
 use Rattle.layout.specs.Rows.{numbers}
 
-number-nil : (w : ℕ) → number w [] ≡ 0
-unfolding number
-number-nil zero = refl
-number-nil (suc w) = refl
-
-number-front : (w : ℕ) (s : List ℕ) → number (suc w) s ≡ getD s 0 0 + 256 * number w (drop 1 s)
-unfolding number
-number-front w [] = rw (number-nil w)
-number-front w (b ∷ s) = refl
-
 -- a number by its first byte and the others
-pub number-more : (w p : ℕ) (s : List ℕ) → number (suc w) (drop p s) ≡ getD s p 0 + 256 * number w (drop (p + 1) s)
-number-more w p s =
-    number-front w (drop p s)
-    ∙ ap (λ (x : List ℕ). getD (drop p s) 0 0 + 256 * number w x) (drop-drop 1 p s)
-    ∙ ap (λ (x : ℕ). x + 256 * number w (drop (p + 1) s)) (getD-drop p s 0 0 ∙ ap (λ (x : ℕ). getD s x 0) (add-zero p))
+number-more : (w p : ℕ) (s : List ℕ) → number (suc w) (drop p s) ≡ getD s p 0 + 256 * number w (drop (p + 1) s)
+number-more w p s = rw (add-one p) (number-at w p s)
 
 -- the places of one, two and four bytes
 pub number-1 : (p : ℕ) (s : List ℕ) → number 1 (drop p s) ≡ getD s p 0
@@ -47,7 +36,7 @@ number-4 p s =
 
 -- Rows by their places -------------------------------------------------------------------------------------------
 
-read-front : (w : ℕ) (l : Layout) (p q : ℕ) (s : List ℕ) → p + w ≡ q → read (w ∷ l) (drop p s) ≡ number w (drop p s) ∷ read l (drop q s)
+pub read-front : (w : ℕ) (l : Layout) (p q : ℕ) (s : List ℕ) → p + w ≡ q → read (w ∷ l) (drop p s) ≡ number w (drop p s) ∷ read l (drop q s)
 unfolding read
 read-front w l p q s e = ap (λ (x : List ℕ). number w (drop p s) ∷ read l x) (drop-drop w p s ∙ ap (λ (x : ℕ). drop x s) e)
 
@@ -107,21 +96,11 @@ module _ (base t : ℕ) (s : List ℕ) (k : ℕ) (h : k < 8) where
 -- Tables ---------------------------------------------------------------------------------------------------------
 
 pub rows-length : (l : Layout) (n : ℕ) (s : List ℕ) → length (reads l n s) ≡ n
-unfolding reads
-rows-length l zero s = refl
-rows-length l (suc n) s = ap suc (rows-length l n (drop (width l) s))
-
-rows-front : (l : Layout) (n i : ℕ) (s : List ℕ) (d : List ℕ) → i < n → getD (reads l n s) i d ≡ read l (drop (width l * i) s)
-unfolding reads
-rows-front l zero i s d h = absurd (omega arith)
-rows-front l (suc n) zero s d h = rw (mul-zero (width l))
-rows-front l (suc n) (suc i) s d h =
-    rows-front l n i (drop (width l) s) d (omega arith)
-    ∙ ap (read l) (drop-drop (width l * i) (width l) s ∙ ap (λ (x : ℕ). drop x s) (add-comm (width l) (width l * i) ∙ sym (mul-suc (width l) i)))
+rows-length l n s = length-reads l n s
 
 -- the i-th row of a table that begins at base
 pub rows-at : (l : Layout) (n i base : ℕ) (s : List ℕ) (d : List ℕ) → i < n → getD (reads l n (drop base s)) i d ≡ read l (drop (base + width l * i) s)
-rows-at l n i base s d h = rows-front l n i (drop base s) d h ∙ ap (read l) (drop-drop (width l * i) base s)
+rows-at l n i base s d h = reads-at l n i (drop base s) d h ∙ ap (read l) (drop-drop (width l * i) base s)
 
 pub term-rows-at : (n i base : ℕ) (s : List ℕ) (d : List ℕ) → i < n → getD (reads termRow n (drop base s)) i d ≡ read termRow (drop (base + 8 * i) s)
 unfolding width
@@ -173,3 +152,34 @@ module _ (d : List ℕ) (from n i : ℕ) (x : List ℕ) (e : x ≡ paste d from 
   cleared-all to q t =
       stored-all d from (replicate n 0) i x e n q
       ∙ rw (t, take-all {A = ℕ} n (replicate n 0) (le-of-eq (length-replicate n 0)))
+
+-- Runs of stores -------------------------------------------------------------------------------------------------
+
+-- one run behind another
+pub sets-sets : (vs ws l : List ℕ) (i j : ℕ) → i + length vs ≡ j → sets (sets l i vs) j ws ≡ sets l i (vs ++ ws)
+sets-sets [] ws l i j e = let q : j ≡ i = omega arith in rw q refl
+sets-sets (v ∷ vs) ws l i j e = sets-sets vs ws (set l i v) (suc i) j (omega arith)
+
+pub three-runs : (i j k : ℕ) (u v w l a b c : List ℕ) → a ≡ sets l i u → b ≡ sets a j v → c ≡ sets b k w → i + length u ≡ j → j + length v ≡ k → c ≡ sets l i (u ++ (v ++ w))
+three-runs i j k u v w l a b c e f g p q =
+    g
+    ∙ ap (λ (x : List ℕ). sets x k w) f
+    ∙ sets-sets v w a j k q
+    ∙ ap (λ (x : List ℕ). sets x j (v ++ w)) e
+    ∙ sets-sets u (v ++ w) l i j p
+
+-- from the first place on
+pub sets-front : (vs l : List ℕ) (n : ℕ) → length vs ≡ n → n ≤ length l → sets l 0 vs ≡ vs ++ drop n l
+sets-front vs l n e h = let q : 0 + length vs ≡ n = omega arith in sets-eq vs l 0 (omega arith) ∙ rw q
+
+-- the header of a record is three runs
+pub head-written : (l a b c : List ℕ) (types rows calls next program : ℕ) → 20 ≤ length l
+    → a ≡ sets l 0 (84 ∷ 67 ∷ 82 ∷ 1 ∷ 0 ∷ 0 ∷ [])
+    → b ≡ sets a 6 (spell 2 types ++ (spell 2 rows ++ spell 2 calls))
+    → c ≡ sets b 12 (spell 4 next ++ (spell 2 program ++ spell 2 0))
+    → c ≡ write recordHead (recordMark ++ (types ∷ rows ∷ calls ∷ next ∷ program ∷ 0 ∷ [])) ++ drop 20 l
+unfolding spell write
+head-written l a b c types rows calls next program h e f g =
+    g
+    ∙ ap (λ (x : List ℕ). sets x 12 (spell 4 next ++ (spell 2 program ++ spell 2 0))) (f ∙ ap (λ (x : List ℕ). sets x 6 (spell 2 types ++ (spell 2 rows ++ spell 2 calls))) e)
+    ∙ sets-front (write recordHead (recordMark ++ (types ∷ rows ∷ calls ∷ next ∷ program ∷ 0 ∷ []))) l 20 refl h

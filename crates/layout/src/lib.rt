@@ -4,9 +4,11 @@ ghost use mathlib.Core.List.{_++_};
 ghost use Prim.Native.Nat.{_+_, _*_, _-_, _≤_, _<_};
 ghost use lib.ListN.{length, getD, take, drop, replicate};
 ghost use lib.Seq.{sets};
-ghost use Rattle.meaning.specs.Bytes.{number, spell, read, typeRow, termRow};
+ghost use mathlib.Core.List.{[], _∷_};
+ghost use Rattle.meaning.specs.Bytes.{number, spell, read, write, typeRow, termRow, recordHead, callsAt, rowsAt, recordBytes};
+ghost use Rattle.meaning.specs.Records.{recordMark};
 ghost use Rattle.meaning.specs.Types.{formNo, partsNo, result};
-ghost use Rattle.layout.specs.Rows.{numbers};
+ghost use Rattle.layout.specs.Rows.{numbers, board};
 
 // What a search for a row finds.
 pub enum Found {
@@ -20,6 +22,36 @@ pub struct Row {
     pub n: u8,
     pub ty: u16,
     pub word: u32,
+}
+
+// What a board has room for: one value for all limits, handed down from an entry.
+pub struct Limits {
+    pub types: u16,
+    pub rows: u16,
+    pub calls: u16,
+    pub last: u32,
+    pub program: u16,
+    pub reply: u16,
+    pub work: u32,
+}
+
+// Where the calls and the rows of a record begin, and its length.
+pub fn calls_at(m: Limits) -> usize
+    ensures { λ r. ⌜ r ≡ callsAt (board m) ⌝ }
+{
+    20 + 36 * m.types as usize
+}
+
+pub fn rows_at(m: Limits) -> usize
+    ensures { λ r. ⌜ r ≡ rowsAt (board m) ⌝ }
+{
+    calls_at(m) + 8 * m.calls as usize
+}
+
+pub fn record_bytes(m: Limits) -> usize
+    ensures { λ r. ⌜ r ≡ recordBytes (board m) ⌝ }
+{
+    rows_at(m) + 8 * m.rows as usize
 }
 
 fn u16_of(a: u8, b: u8) -> u16
@@ -140,4 +172,47 @@ pub fn clear(dst: &mut [u8], from: usize, to: usize)
         dst[from + i] = 0;
         i += 1;
     }
+}
+
+// The record's first six bytes: mark, version, a zero byte.
+fn write_mark(kept: &mut [u8])
+    requires { ⌜ 6 ≤ length (now kept) ⌝ }
+    ensures { λ _. ⌜ now (kept .exit) ≡ sets (now (kept .entry)) 0 (84 ∷ 67 ∷ 82 ∷ 1 ∷ 0 ∷ 0 ∷ []) ⌝ }
+{
+    kept[0] = 84;
+    kept[1] = 67;
+    kept[2] = 82;
+    kept[3] = 1;
+    kept[4] = 0;
+    kept[5] = 0;
+}
+
+// The counts of types, rows and open calls.
+fn write_counts(kept: &mut [u8], types: u16, rows: u16, calls: u16)
+    requires { ⌜ 12 ≤ length (now kept) ⌝ }
+    ensures { λ _. ⌜ now (kept .exit) ≡ sets (now (kept .entry)) 6 (spell 2 types ++ (spell 2 rows ++ spell 2 calls)) ⌝ }
+{
+    put16_at(kept, 6, types);
+    put16_at(kept, 8, rows);
+    put16_at(kept, 10, calls);
+}
+
+// The next number, the program's type, two zeros.
+fn write_next(kept: &mut [u8], next: u32, program: u16)
+    requires { ⌜ 20 ≤ length (now kept) ⌝ }
+    ensures { λ _. ⌜ now (kept .exit) ≡ sets (now (kept .entry)) 12 (spell 4 next ++ (spell 2 program ++ spell 2 0)) ⌝ }
+{
+    put32_at(kept, 12, next);
+    put16_at(kept, 16, program);
+    put16_at(kept, 18, 0);
+}
+
+// A record's header; the bytes behind it stand.
+pub fn write_head(kept: &mut [u8], types: u16, rows: u16, calls: u16, next: u32, program: u16)
+    requires { ⌜ 20 ≤ length (now kept) ⌝ }
+    ensures { λ _. ⌜ now (kept .exit) ≡ write recordHead (recordMark ++ (types ∷ rows ∷ calls ∷ next ∷ program ∷ 0 ∷ [])) ++ drop 20 (now (kept .entry)) ⌝ }
+{
+    write_mark(kept);
+    write_counts(kept, types, rows, calls);
+    write_next(kept, next, program);
 }

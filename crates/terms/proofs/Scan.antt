@@ -187,3 +187,23 @@ module _ (s : List ℕ) (base rows i : ℕ) (r : List ℕ) (h : i < rows) (e : r
   pub size-here : size (treeAt terms i) ≡ 1 + sizes (grove terms (i + 1) (arity (rowOf r .head)))
   unfolding size
   size-here = ap size tree-here ∙ omega arith
+
+-- one row of a walk by the trees still owed
+module _ (l : List Row) (i owed : ℕ) (z : owed ≡ 0 → ⊥) where
+  pub owed-some : 1 ≤ sizes (grove l i owed)
+  owed-some = go owed z
+    where
+      go : (k : ℕ) → (k ≡ 0 → ⊥) → 1 ≤ sizes (grove l i k)
+      go zero n = absurd (n refl)
+      go (suc k) n = omega (arith, grove-size l i k, size-some (treeAt l i))
+
+  pub owed-step : (r : Row) → i < length l → getD l i r ≡ r → i + sizes (grove l i owed) ≡ i + 1 + sizes (grove l (i + 1) (owed - 1 + arity (r .head)))
+  unfolding grove trees kids size
+  owed-step r h e = go owed z
+    where
+      go : (k : ℕ) → (k ≡ 0 → ⊥) → i + sizes (kids k (trees (drop i l))) ≡ i + 1 + sizes (kids (k - 1 + arity (r .head)) (trees (drop (i + 1) l)))
+      go zero n = absurd (n refl)
+      go (suc k) n =
+          let q : suc k - 1 + arity (r .head) ≡ k + arity (r .head) = omega arith in
+          let p : drop i l ≡ r ∷ drop (suc i) l = drop-cons l i r h ∙ ap (λ (x : Row). x ∷ drop (suc i) l) e in
+          rw (add-one, p, q) (omega (arith, sizes-split (arity (r .head)) k (trees (drop (suc i) l))))

@@ -14,11 +14,12 @@ use lib.Seq.{drop-cons, take-suc, length-take-le}
 use Rattle.meaning.specs.Bytes.{_∧ᵇ_, within, zeros, Layout, width, reads, typeRow}
 use Rattle.meaning.specs.Types.{Form, absent, formNo, partsNo, result, parts, types, names, formOf, every, below, groundForm, ground, lastForm, fieldsOk, fresh, groundCall, typeOk, badTypeFrom, badType}
 use Rattle.meaning.proofs.Tests.{left, right}
+use Rattle.meaning.proofs.Tables.{ground-below}
 use Rattle.layout.proofs.Laws.{rows-length}
 use Rattle.types.specs.Table.{table, functionOk, namesOk, partsGround, Truthful}
 use Rattle.types.proofs.Laws.{form-row, form-absent}
 use Rattle.types.proofs.Checks.{fields-function}
-use Rattle.types.proofs.GroundLaws.{ground-parts, ground-agree, partGround}
+use Rattle.types.proofs.GroundLaws.{ground-parts, partGround}
 
 -- a number beyond the table is not ground
 pub ground-beyond : (s : List ℕ) (start count t : ℕ) → count ≤ t → ground (formOf (table s start count)) t ≡ false
@@ -74,7 +75,7 @@ pub call-agree : (s : List ℕ) (start count i : ℕ) (r : List ℕ) → i ≤ c
 call-agree s start count i r h f =
     elim (ℕ-discrete (formNo r) 7) [
       | no n ↦ call-other _ r (formNo r) refl n ∙ sym (call-other _ r (formNo r) refl n)
-      | yes q ↦ call-same _ _ i r q (call-below i r q f) (λ t l. ground-agree _ _ t (λ p k. forms-agree s start count i p h (omega arith)))
+      | yes q ↦ call-same _ _ i r q (call-below i r q f) (λ t l. ground-below _ _ t (λ p k. forms-agree s start count i p h (omega arith)))
     ]
 
 -- A row --------------------------------------------------------------------------------------------------------

@@ -1,4 +1,4 @@
--- Whether a type is ground goes by its parts, and only by the rows below it; and what a memo may be told. Assumes nothing.
+-- Whether a type is ground goes by its parts, and what a memo of it may be told. Assumes nothing.
 use Prim.Native.Nat.{ℕ, zero, suc, _+_, _*_, _<_, _≤_}
 use mathlib.Core.Path.{_≡_, refl, ap, sym, _∙_, fun-ext}
 use mathlib.Core.Bool.{Bool, true, false, cond, false≢true}
@@ -12,29 +12,17 @@ use lib.ListN.{length, take, drop, getD, set, drop-of-length-le}
 use lib.Seq.{drop-cons, getD-set-same, getD-set-other, set-out}
 use Rattle.meaning.specs.Bytes.{_∧ᵇ_}
 use Rattle.meaning.specs.Types.{Form, absent, base, fList, fTuple, fFun, types, formNo, partsNo, result, parts, formRow, every, groundForm, groundBelow, ground}
+use Rattle.meaning.proofs.Tables.{ground-eq}
 use Rattle.types.specs.Table.{mark, Truthful, Told}
 use Rattle.types.proofs.Laws.{row-none, row-str, row-file, row-truth, row-list, row-tuple, row-native, row-foreign, row-beyond}
-
-and-cong : (b x y : Bool) → (b ≡ true → x ≡ y) → (b ∧ᵇ x) ≡ (b ∧ᵇ y)
-unfolding _∧ᵇ_
-and-cong true x y h = h refl
-and-cong false x y h = refl
-
-deep-enough : (form : ℕ → Form) (f g t : ℕ) → t < f → t < g → groundBelow form f t ≡ groundBelow form g t
-unfolding groundBelow
-deep-enough form zero g t h k = absurd (omega arith)
-deep-enough form (suc f) zero t h k = absurd (omega arith)
-deep-enough form (suc f) (suc g) t h k =
-    ap (λ (q : ℕ → Bool). groundForm q (form t)) (fun-ext λ p. and-cong (ltb p t) _ _ (λ e. deep-enough form f g p (omega (arith, ltb-true p t e)) (omega (arith, ltb-true p t e))))
 
 -- a part is ground where its number is smaller and it is ground
 unfoldable pub partGround : (ℕ → Form) → ℕ → ℕ → Bool
 partGround form t p = ltb p t ∧ᵇ ground form p
 
 pub ground-parts : (form : ℕ → Form) (t : ℕ) → ground form t ≡ groundForm (partGround form t) (form t)
-unfolding ground groundBelow partGround
-ground-parts form t =
-    ap (λ (q : ℕ → Bool). groundForm q (form t)) (fun-ext λ p. and-cong (ltb p t) _ _ (λ e. deep-enough form t (suc p) p (ltb-true p t e) (omega arith)))
+unfolding partGround
+ground-parts form t = ground-eq form t
 
 pub part-low : (form : ℕ → Form) (t p : ℕ) → p < t → partGround form t p ≡ ground form p
 unfolding partGround _∧ᵇ_
@@ -90,18 +78,6 @@ module _ (p : ℕ → Bool) (l : List ℕ) (k v : ℕ) (h : k < length l) (e : g
 pub every-end : (p : ℕ → Bool) (l : List ℕ) (k : ℕ) → length l ≤ k → every p (drop k l) ≡ true
 unfolding every
 every-end p l k h = rw (drop-of-length-le l {i = k} h)
-
--- only the rows up to a type's own tell whether it is ground
-agree : (f g : ℕ → Form) (d t : ℕ) → ((p : ℕ) → p ≤ t → f p ≡ g p) → groundBelow f d t ≡ groundBelow g d t
-unfolding groundBelow
-agree f g zero t h = refl
-agree f g (suc d) t h =
-    ap (groundForm _) (h t (omega arith))
-    ∙ ap (λ (q : ℕ → Bool). groundForm q (g t)) (fun-ext λ p. and-cong (ltb p t) _ _ (λ e. agree f g d p (λ u k. h u (omega (arith, ltb-true p t e)))))
-
-pub ground-agree : (f g : ℕ → Form) (t : ℕ) → ((p : ℕ) → p ≤ t → f p ≡ g p) → ground f t ≡ ground g t
-unfolding ground
-ground-agree f g t h = agree f g (suc t) t h
 
 -- The memo -------------------------------------------------------------------------------------------------------
 

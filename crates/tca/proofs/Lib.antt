@@ -1,0 +1,4 @@
+pub mod HeadLaws
+pub mod VerdictLaws
+pub mod FreshLaws
+pub mod Once

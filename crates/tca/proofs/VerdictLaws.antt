@@ -1,0 +1,167 @@
+-- Load's verdict, test by test in document 01's order. Assumes nothing.
+use Prim.Native.Nat.{ℕ, zero, suc, _+_, _*_, _≤_, _<_}
+use mathlib.Core.Path.{_≡_, refl, ap, sym, _∙_}
+use mathlib.Core.Bool.{Bool, true, false, not, cond}
+use mathlib.Core.List.{List, map}
+use mathlib.Core.Option.{Option, none, some}
+use native.Mathlib.Omega.{arith}
+use native.Mathlib.Numerals.{add-one}
+use native.Mathlib.Nat.{add-assoc, zero-add, add-zero}
+use borrow.Author.Tests.{eq-eqb, ne-eqb, le-leb, lt-leb, eqb-true, leb-true}
+use lib.Dec.{eqb, leb}
+use lib.ListN.{length, getD, take, drop, drop-of-length-le}
+use lib.Seq.{drop-cons}
+use Rattle.meaning.specs.Bytes.{width, reads, typeRow, termRow, Limits, arm, recordBytes}
+use Rattle.meaning.specs.Terms.{kindNo, rowOf, shape, treeOf}
+use Rattle.meaning.specs.Types.{formOf, empty, badType}
+use Rattle.meaning.specs.Typing.{later, firstBad}
+use Rattle.meaning.specs.Records.{firstNot, recordOf}
+use Rattle.meaning.specs.Entries.{require, refuse, refuseShape, fileNo, fileTypeCount, fileRowCount, fileTypes, fileRows, fileTree, noFuture, programVerdict, loadVerdict, leaves, loadedState, load}
+use Rattle.meaning.specs.declared.Fault.{Fault}
+use Rattle.meaning.specs.declared.Shape.{Shape}
+use Rattle.meaning.specs.declared.Shape.the-variants.{Whole, Bad}
+use Rattle.meaning.specs.declared.Refusal.{Refusal}
+use Rattle.meaning.specs.declared.Refusal.the-variants.{Length, Size, Mark, Version, Count, TypeRow, Row, Future, Typing}
+use Rattle.meaning.specs.declared.Verdict.{Verdict}
+use Rattle.meaning.specs.declared.Verdict.the-variants.{Accepted, Refused}
+use Rattle.meaning.proofs.Tests.{left, right, within-if}
+use Rattle.tca.specs.Loads.{marked, countsOk, Loads}
+
+-- The header's tests ---------------------------------------------------------------------------------------------
+
+module _ (m : Limits) (s : List ℕ) (room : ℕ) where
+  pub other-room : (room ≡ recordBytes m → ⊥) → loadVerdict m s room ≡ Refused Length
+  unfolding loadVerdict require
+  other-room n = rw (ne-eqb _ _ n)
+
+  module _ (a : room ≡ recordBytes m) where
+    pub too-short : length s < 10 → loadVerdict m s room ≡ Refused Size
+    unfolding loadVerdict require width
+    too-short h = rw (eq-eqb _ _ a, lt-leb 10 (length s) h)
+
+    module _ (b : 10 ≤ length s) where
+      pub no-mark : marked s ≡ false → loadVerdict m s room ≡ Refused Mark
+      unfolding loadVerdict require width marked
+      no-mark q = rw (eq-eqb _ _ a, le-leb 10 (length s) b, q)
+
+      module _ (c : marked s ≡ true) where
+        pub other-version : (fileNo 3 s ≡ 1 → ⊥) → loadVerdict m s room ≡ Refused Version
+        unfolding loadVerdict require width marked
+        other-version n = rw (eq-eqb _ _ a, le-leb 10 (length s) b, c, ne-eqb _ _ n)
+
+        module _ (d : fileNo 3 s ≡ 1) where
+          pub bad-counts : countsOk m s ≡ false → loadVerdict m s room ≡ Refused Count
+          unfolding loadVerdict require width marked countsOk
+          bad-counts q = rw (eq-eqb _ _ a, le-leb 10 (length s) b, c, eq-eqb _ _ d, q)
+
+          module _ (e : countsOk m s ≡ true) where
+            pub other-length : (length s ≡ 10 + 36 * fileTypeCount s + 8 * fileRowCount s → ⊥) → loadVerdict m s room ≡ Refused Size
+            unfolding loadVerdict require width marked countsOk
+            other-length n = rw (eq-eqb _ _ a, le-leb 10 (length s) b, c, eq-eqb _ _ d, e, ne-eqb _ _ n)
+
+            pub header-good : length s ≡ 10 + 36 * fileTypeCount s + 8 * fileRowCount s → loadVerdict m s room ≡ programVerdict s
+            unfolding loadVerdict require width marked countsOk
+            header-good q = rw (eq-eqb _ _ a, le-leb 10 (length s) b, c, eq-eqb _ _ d, e, eq-eqb _ _ q)
+
+pub counts-within : (m : Limits) (s : List ℕ) → countsOk m s ≡ true → (fileTypeCount s ≤ m .types) × (fileRowCount s ≤ m .programRows)
+unfolding countsOk
+counts-within m s e = (within-if _ _ _ (left _ _ (right _ _ e)) .1, within-if _ _ _ (right _ _ (right _ _ e)) .1)
+
+-- Types, shape, futures, typing ----------------------------------------------------------------------------------
+
+-- over the n types and k rows that the file has
+module _ (s : List ℕ) (n k : ℕ) (p : n ≡ fileTypeCount s) (q : k ≡ fileRowCount s) where
+  types-in : reads typeRow n (drop 10 s) ≡ fileTypes s
+  unfolding fileTypes width
+  types-in = rw (← p)
+
+  rows-in : reads termRow k (drop (10 + 36 * n) s) ≡ fileRows s
+  unfolding fileRows width
+  rows-in = rw (← p, ← q)
+
+  pub bad-type-row : (i : ℕ) → some i ≡ badType 1 (reads typeRow n (drop 10 s)) → Refused (TypeRow i) ≡ programVerdict s
+  unfolding programVerdict refuse
+  bad-type-row i e = rw (← (e ∙ ap (badType 1) types-in))
+
+  module _ (a : none ≡ badType 1 (reads typeRow n (drop 10 s))) where
+    types-good : badType 1 (fileTypes s) ≡ none
+    types-good = sym (a ∙ ap (badType 1) types-in)
+
+    shape-is : shape 1 n (reads termRow k (drop (10 + 36 * n) s)) ≡ shape 1 (fileTypeCount s) (fileRows s)
+    shape-is = ap (shape 1 n) rows-in ∙ ap (λ (c : ℕ). shape 1 c (fileRows s)) p
+
+    pub bad-row : (f : Fault) (i : ℕ) → Bad f i ≡ shape 1 n (reads termRow k (drop (10 + 36 * n) s)) → Refused (Row f i) ≡ programVerdict s
+    unfolding programVerdict refuse refuseShape
+    bad-row f i e = rw (types-good, ← (e ∙ shape-is))
+
+    module _ (b : Whole ≡ shape 1 n (reads termRow k (drop (10 + 36 * n) s))) where
+      pub future-row : (i : ℕ) → some i ≡ firstNot noFuture (reads termRow k (drop (10 + 36 * n) s)) → Refused (Future i) ≡ programVerdict s
+      unfolding programVerdict refuse refuseShape
+      future-row i e = rw (types-good, ← (b ∙ shape-is), ← (e ∙ ap (firstNot noFuture) rows-in))
+
+      module _ (c : none ≡ firstNot noFuture (reads termRow k (drop (10 + 36 * n) s))) where
+        judged : Option ℕ
+        judged = firstBad (formOf (reads typeRow n (drop 10 s))) empty (treeOf (map rowOf (reads termRow k (drop (10 + 36 * n) s))))
+
+        judged-is : judged ≡ firstBad (formOf (fileTypes s)) empty (fileTree s)
+        unfolding judged fileTree
+        judged-is = rw (types-in, rows-in)
+
+        pub ill-typed-row : (i : ℕ) → some i ≡ firstBad (formOf (reads typeRow n (drop 10 s))) empty (treeOf (map rowOf (reads termRow k (drop (10 + 36 * n) s)))) → Refused (Typing i) ≡ programVerdict s
+        unfolding programVerdict refuse refuseShape judged
+        ill-typed-row i e = rw (types-good, ← (b ∙ shape-is), ← (c ∙ ap (firstNot noFuture) rows-in), ← (e ∙ judged-is))
+
+        pub all-good : none ≡ firstBad (formOf (reads typeRow n (drop 10 s))) empty (treeOf (map rowOf (reads termRow k (drop (10 + 36 * n) s)))) → Accepted ≡ programVerdict s
+        unfolding programVerdict refuse refuseShape judged
+        all-good e = rw (types-good, ← (b ∙ shape-is), ← (c ∙ ap (firstNot noFuture) rows-in), ← (e ∙ judged-is))
+
+-- The first that fails a test ------------------------------------------------------------------------------------
+
+module _ {A : Type 0} (p : A → Bool) (l : List A) (i : ℕ) where
+  later-zero : (o : Option ℕ) → later 0 o ≡ o
+  unfolding later
+  later-zero none = refl
+  later-zero (some j) = ap some (zero-add j)
+
+  pub first-all : later 0 (firstNot p (drop 0 l)) ≡ firstNot p l
+  first-all = later-zero (firstNot p l)
+
+  module _ (d x : A) (h : i < length l) (e : getD l i d ≡ x) where
+    pub first-here : p x ≡ false → later i (firstNot p (drop i l)) ≡ some i
+    unfolding later firstNot
+    first-here q = rw (drop-cons l i d h, e, q) (ap some (add-zero i))
+
+    later-suc : (o : Option ℕ) → later i (elim o [ none ↦ none | some j ↦ some (suc j) ]) ≡ later (suc i) o
+    unfolding later
+    later-suc none = refl
+    later-suc (some j) = ap some (omega arith)
+
+    pub first-on : p x ≡ true → later i (firstNot p (drop i l)) ≡ later (i + 1) (firstNot p (drop (i + 1) l))
+    unfolding firstNot
+    first-on q = rw (add-one i, drop-cons l i d h, e, q) (later-suc (firstNot p (drop (suc i) l)))
+
+  pub first-end : length l ≤ i → later i (firstNot p (drop i l)) ≡ none
+  unfolding later firstNot
+  first-end h = rw (drop-of-length-le l {i = i} h)
+
+pub no-future-if : (r : List ℕ) (k : ℕ) → k ≡ kindNo r → (k ≡ 9 → ⊥) → noFuture r ≡ true
+unfolding noFuture
+no-future-if r k e n = rw (← e, ne-eqb k 9 n)
+
+pub future-if : (r : List ℕ) (k : ℕ) → k ≡ kindNo r → k ≡ 9 → noFuture r ≡ false
+unfolding noFuture
+future-if r k e q = rw (← e, eq-eqb k 9 q)
+
+-- A load ---------------------------------------------------------------------------------------------------------
+
+module _ (m : Limits) (s kept : List ℕ) (v : Verdict) (a : m ≡ arm) (e : v ≡ loadVerdict m s (length kept)) where
+  decided : v ≡ loadVerdict arm s (length kept)
+  decided = e ∙ ap (λ (x : Limits). loadVerdict x s (length kept)) a
+
+  pub loads-fresh : (kept′ : List ℕ) → v ≡ Accepted → kept′ ≡ recordOf m (loadedState s) → Loads s kept kept′ v
+  unfolding load leaves
+  loads-fresh kept′ q b = record { verdict = decided; bytes = b ∙ rw (← decided, q, a) }
+
+  pub loads-nothing : (r : Refusal) → v ≡ Refused r → Loads s kept kept v
+  unfolding load leaves
+  loads-nothing r q = record { verdict = decided; bytes = rw (← decided, q) }

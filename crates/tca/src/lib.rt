@@ -1,0 +1,139 @@
+// Load: a program file is judged and, if accepted, written as a fresh record.
+use layout::Found;
+use layout::Limits;
+use meaning::Refusal;
+use meaning::Shape;
+
+mod answers;
+mod fresh;
+mod head;
+
+ghost use mathlib.Core.Path.{_≡_};
+ghost use Prim.Native.Nat.{_+_, _*_, _≤_};
+ghost use lib.ListN.{length, drop};
+ghost use Rattle.layout.specs.Rows.{found, board};
+ghost use Rattle.meaning.specs.Bytes.{reads, termRow, arm};
+ghost use Rattle.meaning.specs.Records.{firstNot};
+ghost use Rattle.meaning.specs.Entries.{fileTypeCount, fileRowCount, noFuture, programVerdict, loadVerdict};
+ghost use Rattle.tca.specs.Loads.{Loads, Tells};
+
+// The edition of the file format that is read.
+const VERSION: u16 = 1;
+
+// A verdict in document 01's numbers.
+#[repr(C)]
+pub struct Verdict {
+    pub refusal: u32,
+    pub place: u32,
+}
+
+// The attachment arm.
+fn arm_limits() -> Limits
+    ensures { λ m. ⌜ board m ≡ arm ⌝ }
+{
+    Limits {
+        types: 256,
+        rows: 2048,
+        calls: 64,
+        last: 65535,
+        program: 1024,
+        reply: 256,
+        work: 16400,
+    }
+}
+
+// Refusal 8: the first future.
+fn first_future(bytes: &[u8], base: usize, rows: usize) -> Found
+    requires { ⌜ (base + 8 * rows ≤ length (now bytes)) × (rows ≤ 4096) ⌝ }
+    ensures { λ r. ⌜ found r ≡ firstNot noFuture (reads termRow rows (drop base (now (bytes .entry)))) ⌝ }
+{
+    let mut i = 0;
+    while i < rows {
+        let r = layout::row_at(bytes, base, i);
+        if r.kind == 9 {
+            return Found::At(i as u32);
+        }
+        i += 1;
+    }
+    Found::Nothing
+}
+
+// Refusals 6 to 9 of a file whose counts are `types` and `rows`.
+fn program_verdict(file: &[u8], types: u16, rows: u16) -> meaning::Verdict
+    requires { ⌜ (10 + 36 * types + 8 * rows ≤ length (now file)) × (types ≤ 256) × (rows ≤ 2048) × (types ≡ fileTypeCount (now file)) × (rows ≡ fileRowCount (now file)) ⌝ }
+    ensures { λ v. ⌜ v ≡ programVerdict (now (file .entry)) ⌝ }
+{
+    let count = types as usize;
+    let n = rows as usize;
+    let at = 10 + 36 * count;
+    let bad = types::bad_type(file, 10, count, VERSION);
+    if let Found::At(i) = bad {
+        return meaning::Verdict::Refused(Refusal::TypeRow(i));
+    }
+    let form = terms::check_shape(file, at, n, types, VERSION);
+    if let Shape::Bad(f, i) = form {
+        return meaning::Verdict::Refused(Refusal::Row(f, i));
+    }
+    let future = first_future(file, at, n);
+    if let Found::At(i) = future {
+        return meaning::Verdict::Refused(Refusal::Future(i));
+    }
+    let ill = typing::first_bad(file, 10, count, file, at, n);
+    if let Found::At(i) = ill {
+        return meaning::Verdict::Refused(Refusal::Typing(i));
+    }
+    meaning::Verdict::Accepted
+}
+
+// The verdict alone: nothing is written.
+fn load_verdict(file: &[u8], room: usize, m: Limits) -> meaning::Verdict
+    requires { ⌜ (m .types ≤ 256) × (m .program ≤ 2048) ⌝ }
+    ensures { λ v. ⌜ v ≡ loadVerdict (board m) (now (file .entry)) room ⌝ }
+{
+    if room != layout::record_bytes(m) {
+        return meaning::Verdict::Refused(Refusal::Length);
+    }
+    if file.len() < 10 {
+        return meaning::Verdict::Refused(Refusal::Size);
+    }
+    if head::is_marked(file) {
+        if head::version(file) != VERSION {
+            return meaning::Verdict::Refused(Refusal::Version);
+        }
+        if head::counts_ok(file, m) {
+            let types = head::type_count(file);
+            let rows = head::row_count(file);
+            if file.len() != 10 + 36 * types as usize + 8 * rows as usize {
+                return meaning::Verdict::Refused(Refusal::Size);
+            }
+            return program_verdict(file, types, rows);
+        }
+        return meaning::Verdict::Refused(Refusal::Count);
+    }
+    meaning::Verdict::Refused(Refusal::Mark)
+}
+
+pub fn load(file: &[u8], kept: &mut [u8]) -> meaning::Verdict
+    ensures { λ v. ⌜ Loads (now (file .entry)) (now (kept .entry)) (now (kept .exit)) v ⌝ }
+{
+    let m = arm_limits();
+    let v = load_verdict(file, kept.len(), m);
+    match v {
+        meaning::Verdict::Accepted => {
+            fresh::write_fresh(file, kept, m);
+            v
+        }
+        meaning::Verdict::Refused(_) => v,
+    }
+}
+
+#[no_mangle]
+pub extern "C" fn tca_load(file: &[u8], kept: &mut [u8]) -> Verdict
+    ensures { λ v. ⌜ Tells (now (file .entry)) (now (kept .entry)) (now (kept .exit)) v ⌝ }
+{
+    let v = load(file, kept);
+    Verdict {
+        refusal: answers::verdict_number(v),
+        place: answers::verdict_place(v),
+    }
+}

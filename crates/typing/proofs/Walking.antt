@@ -1,0 +1,82 @@
+-- One row of the walk, and its start. Assumes nothing.
+use Prim.Native.Nat.{ℕ, zero, suc, _+_, _-_, _*_, _<_, _≤_}
+use mathlib.Core.Path.{_≡_, refl, ap, sym, _∙_, subst}
+use mathlib.Core.Bool.{Bool, true, false}
+use mathlib.Core.List.{List, [], _∷_}
+use mathlib.Core.Option.{Option, none, some}
+use native.Mathlib.Omega.{arith}
+use lib.ListN.{length, getD, drop, replicate, getD-replicate, length-replicate, List·getD-eq-default}
+use Rattle.meaning.specs.Bytes.{number, read, termRow}
+use Rattle.meaning.specs.Types.{Form, Ctx}
+use Rattle.meaning.specs.Terms.{arity, Row, kindNo, headFrom, rowOf, sizes, treeAt, grove}
+use Rattle.meaning.specs.Typing.{tys}
+use Rattle.terms.specs.Tables.{Closed}
+use Rattle.terms.proofs.Scan.{row-in}
+use Rattle.typing.specs.Forms.{forms, termRows}
+use Rattle.typing.specs.Scope.{around, walk, handOn, innerOf, judged, Low}
+use Rattle.typing.proofs.Faults.{walk-here, walk-on, handed-low}
+use Rattle.typing.proofs.Judging.{children-in, judged-in, inner-right}
+
+module _ (s : List ℕ) (tbase count : ℕ) (b : List ℕ) (base rows i k n ty w : ℕ) (h : i < rows) (e : k ∷ n ∷ ty ∷ w ∷ [] ≡ read termRow (drop (base + 8 * i) b)) (sc : List ℕ) where
+  abbrev F : ℕ → Form
+  F = forms s tbase count
+
+  abbrev l : List Row
+  l = termRows b base rows
+
+  abbrev r : Row
+  r = rowOf (k ∷ n ∷ ty ∷ w ∷ [])
+
+  -- a row that fails
+  fails : (owed : ℕ) → (owed ≡ 0 → ⊥) → judged F (around F l sc i) (treeAt l i) ≡ false → walk F l sc owed i ≡ some i
+  unfolding rowOf
+  fails zero z q = absurd (z refl)
+  fails (suc m) z q =
+      let g = row-in b base rows i (k ∷ n ∷ ty ∷ w ∷ []) h e in
+      walk-here F l sc i m r (g .0) (g .1) (sym (judged-in s tbase count b base rows i k n ty w h e (around F l sc i)) ∙ q)
+
+  -- a row that stands
+  module _ (low : Low sc i) (c : Closed l rows) (room : rows ≤ length sc) where
+    abbrev next : List ℕ
+    next = handOn l (innerOf k (getD sc i 0) (i + 1)) 0 (arity (headFrom k n w)) (i + 1) sc
+
+    pub goes-on : (owed : ℕ) → (owed ≡ 0 → ⊥) → judged F (around F l sc i) (treeAt l i) ≡ true → walk F l sc owed i ≡ walk F l next (owed - 1 + arity (headFrom k n w)) (i + 1)
+    unfolding rowOf
+    goes-on zero z q = absurd (z refl)
+    goes-on (suc m) z q =
+        let g = row-in b base rows i (k ∷ n ∷ ty ∷ w ∷ []) h e in
+        let d : m + arity (headFrom k n w) ≡ suc m - 1 + arity (headFrom k n w) = omega arith in
+        let f = children-in s tbase count b base rows i k n ty w h e c in
+        walk-on F l sc i m r (g .0) (g .1) low (innerOf k (getD sc i 0) (i + 1)) (omega arith)
+        (λ p. inner-right F n w ty (getD sc i 0) i k p (tys (grove l (i + 1) (arity (headFrom k n w)))))
+        (sym (judged-in s tbase count b base rows i k n ty w h e (around F l sc i)) ∙ q)
+        ∙ ap (λ (x : ℕ). walk F l next x (i + 1)) d
+
+    pub next-low : Low next (i + 1)
+    unfolding rowOf
+    next-low =
+        let g = row-in b base rows i (k ∷ n ∷ ty ∷ w ∷ []) h e in
+        let d : suc i ≡ i + 1 = omega arith in
+        let f = children-in s tbase count b base rows i k n ty w h e c in
+        subst (Low next) d
+        (handed-low F l sc i 0 r (g .0) (g .1) low (innerOf k (getD sc i 0) (i + 1)) (omega arith)
+        (λ p. inner-right F n w ty (getD sc i 0) i k p (tys (grove l (i + 1) (arity (headFrom k n w))))))
+
+pub stops : (s : List ℕ) (tbase count : ℕ) (b : List ℕ) (base rows i : ℕ) → i < rows → (sc : List ℕ) (owed : ℕ) → (owed ≡ 0 → ⊥)
+  → judged (forms s tbase count) (around (forms s tbase count) (termRows b base rows) sc i) (treeAt (termRows b base rows) i) ≡ false → walk (forms s tbase count) (termRows b base rows) sc owed i ≡ some i
+unfolding read
+stops s tbase count b base rows i h sc owed z q =
+    let x = drop (base + 8 * i) b in
+    fails s tbase count b base rows i (number 1 x) (number 1 (drop 1 x)) (number 2 (drop 1 (drop 1 x))) (number 4 (drop 2 (drop 1 (drop 1 x)))) h refl sc owed z q
+
+-- an array of zeros
+zeros-at : (n p : ℕ) → _≡_ {A = ℕ} (getD (replicate n 0) p 0) 0
+zeros-at zero p = refl
+zeros-at (suc n) zero = refl
+zeros-at (suc n) (suc p) = zeros-at n p
+
+pub zeros-low : (n : ℕ) → Low (replicate n 0) 0
+zeros-low n = record { own = λ p. omega (arith, zeros-at n p); all = λ p. omega (arith, zeros-at n p) }
+
+pub low-weak : (sc : List ℕ) (i j : ℕ) → i ≤ j → Low sc i → Low sc j
+low-weak sc i j h w = record { own = w .own; all = λ p. omega (arith, w .all p) }

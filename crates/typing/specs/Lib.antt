@@ -1,0 +1,3 @@
+pub mod Forms
+pub mod Scope
+pub mod Named
