@@ -5,10 +5,10 @@ use mathlib.Core.Bool.{Bool, true, false, cond}
 use mathlib.Core.List.{List, [], _∷_, map}
 use mathlib.Core.Option.{Option, none, some}
 use native.Mathlib.Omega.{arith}
-use native.Mathlib.Decide.{ℕ-discrete}
+use native.Mathlib.Decide.{ℕ-discrete, decLt}
 use lib.Dec.{eqb, leb, ltb}
 use borrow.Author.Tests.{eq-eqb, ne-eqb, lt-ltb, le-ltb, le-leb, lt-leb}
-use lib.ListN.{getD, List·getD-map}
+use lib.ListN.{getD, List·getD-eq-default}
 use Rattle.meaning.specs.Bytes.{_∧ᵇ_, within}
 use Rattle.meaning.specs.Terms.{Head, lit, str, arity, headFrom, Fields, none-used, kindFields, lastKind, fits, rowFault}
 use Rattle.meaning.specs.declared.Fault.{Fault}
@@ -51,29 +51,28 @@ head-other k n w h =
 
 -- Children -------------------------------------------------------------------------------------------------------
 
-abbrev fixed : List ℕ
-fixed = 0 ∷ 0 ∷ 0 ∷ 0 ∷ 0 ∷ 0 ∷ 1 ∷ 0 ∷ 0 ∷ 0 ∷ 3 ∷ 1 ∷ 0 ∷ 2 ∷ 1 ∷ 1 ∷ 0 ∷ 1 ∷ 1 ∷ 2 ∷ []
+abbrev Leaf : ℕ → Type 0
+Leaf k = (k ≡ 6 → ⊥) → (k ≡ 8 → ⊥) → (k ≡ 10 → ⊥) → (k ≡ 11 → ⊥) → (k ≡ 13 → ⊥) → (k ≡ 14 → ⊥) → (k ≡ 15 → ⊥) → (k ≡ 16 → ⊥) → (k ≡ 17 → ⊥) → (k ≡ 18 → ⊥) → (k ≡ 19 → ⊥) → (n w : ℕ) → arity (headFrom k n w) ≡ 0
 
-abbrev Fixed : ℕ → Type 0
-Fixed k = (k ≡ 8 → ⊥) → (k ≡ 16 → ⊥) → (n w : ℕ) → (arity (headFrom k n w) ≡ getD fixed k 0) × (getD fixed k 0 ≤ 3)
-
-fixed-at : Below Fixed 20
+leaf-at : Below Leaf 20
 unfolding headFrom
-fixed-at = ((((((((((((((((((((tt, (λ a b n w. (refl, omega arith))), (λ a b n w. (refl, omega arith))), (λ a b n w. (refl, omega arith))), (λ a b n w. (refl, omega arith))), (λ a b n w. (refl, omega arith))), (λ a b n w. (refl, omega arith))), (λ a b n w. (refl, omega arith))), (λ a b n w. (refl, omega arith))), (λ a b n w. absurd (a refl))), (λ a b n w. (refl, omega arith))), (λ a b n w. (refl, omega arith))), (λ a b n w. (refl, omega arith))), (λ a b n w. (refl, omega arith))), (λ a b n w. (refl, omega arith))), (λ a b n w. (refl, omega arith))), (λ a b n w. (refl, omega arith))), (λ a b n w. absurd (b refl))), (λ a b n w. (refl, omega arith))), (λ a b n w. (refl, omega arith))), (λ a b n w. (refl, omega arith)))
+leaf-at = ((((((((((((((((((((tt, (λ a b c d e f g h i j k n w. refl)), (λ a b c d e f g h i j k n w. refl)), (λ a b c d e f g h i j k n w. refl)), (λ a b c d e f g h i j k n w. refl)), (λ a b c d e f g h i j k n w. refl)), (λ a b c d e f g h i j k n w. refl)), (λ a b c d e f g h i j k n w. absurd (a refl))), (λ a b c d e f g h i j k n w. refl)), (λ a b c d e f g h i j k n w. absurd (b refl))), (λ a b c d e f g h i j k n w. refl)), (λ a b c d e f g h i j k n w. absurd (c refl))), (λ a b c d e f g h i j k n w. absurd (d refl))), (λ a b c d e f g h i j k n w. refl)), (λ a b c d e f g h i j k n w. absurd (e refl))), (λ a b c d e f g h i j k n w. absurd (f refl))), (λ a b c d e f g h i j k n w. absurd (g refl))), (λ a b c d e f g h i j k n w. absurd (h refl))), (λ a b c d e f g h i j k n w. absurd (i refl))), (λ a b c d e f g h i j k n w. absurd (j refl))), (λ a b c d e f g h i j k n w. absurd (k refl)))
 
-pub arity-apply : (k n w : ℕ) → k ≡ 8 → arity (headFrom k n w) ≡ n + 1
+-- a kind that code does not name has no children
+pub arity-leaf : (k : ℕ) → Leaf k
+arity-leaf x a b c d e f g h i j k n w =
+    elim (decLt x 20) [ yes y ↦ below Leaf 20 leaf-at x y a b c d e f g h i j k n w | no y ↦ ap arity (head-other x n w (omega arith)) ]
+
+abbrev Few : ℕ → Type 0
+Few k = (k ≡ 8 → ⊥) → (k ≡ 16 → ⊥) → (n w : ℕ) → arity (headFrom k n w) ≤ 3
+
+few-at : Below Few 20
 unfolding headFrom
-arity-apply k n w e = rw e (omega arith)
+few-at = ((((((((((((((((((((tt, (λ a b n w. omega arith)), (λ a b n w. omega arith)), (λ a b n w. omega arith)), (λ a b n w. omega arith)), (λ a b n w. omega arith)), (λ a b n w. omega arith)), (λ a b n w. omega arith)), (λ a b n w. omega arith)), (λ a b n w. absurd (a refl))), (λ a b n w. omega arith)), (λ a b n w. omega arith)), (λ a b n w. omega arith)), (λ a b n w. omega arith)), (λ a b n w. omega arith)), (λ a b n w. omega arith)), (λ a b n w. omega arith)), (λ a b n w. absurd (b refl))), (λ a b n w. omega arith)), (λ a b n w. omega arith)), (λ a b n w. omega arith))
 
-pub arity-tuple : (k n w : ℕ) → k ≡ 16 → arity (headFrom k n w) ≡ n
-unfolding headFrom
-arity-tuple k n w e = rw e refl
-
-pub arity-fixed : (k n w : ℕ) → (k ≡ 8 → ⊥) → (k ≡ 16 → ⊥) → k < 20 → (arity (headFrom k n w) ≡ getD fixed k 0) × (getD fixed k 0 ≤ 3)
-arity-fixed k n w e f h = below Fixed 20 fixed-at k h e f n w
-
-pub arity-other : (k n w : ℕ) → 20 ≤ k → arity (headFrom k n w) ≡ 0
-arity-other k n w h = ap arity (head-other k n w h)
+-- of the kinds whose children are not counted by n, none has more than three
+pub arity-few : (k : ℕ) → Few k
+arity-few k a b n w = elim (decLt k 20) [ yes h ↦ below Few 20 few-at k h a b n w | no h ↦ omega (arith, ap arity (head-other k n w (omega arith))) ]
 
 -- Faults ---------------------------------------------------------------------------------------------------------
 
@@ -83,18 +82,15 @@ last-other zero e = refl
 last-other (suc zero) e = absurd (e refl)
 last-other (suc (suc n)) e = refl
 
--- the four columns of the kinds table
-pub n-low : (k : ℕ) → getD (0 ∷ 0 ∷ 0 ∷ 0 ∷ 0 ∷ 0 ∷ 0 ∷ 0 ∷ 0 ∷ 0 ∷ 0 ∷ 0 ∷ 0 ∷ 0 ∷ 0 ∷ 1 ∷ 1 ∷ 1 ∷ 1 ∷ 0 ∷ []) k 0 ≡ getD kindFields k none-used .nLow
-n-low k = List·getD-map (λ (f : Fields). f .nLow) kindFields k none-used
+abbrev Bare : ℕ → Type 0
+Bare k = (k ≡ 1 → ⊥) → (k ≡ 2 → ⊥) → (k ≡ 5 → ⊥) → (k ≡ 7 → ⊥) → (k ≡ 8 → ⊥) → (k ≡ 9 → ⊥) → (k ≡ 15 → ⊥) → (k ≡ 16 → ⊥) → (k ≡ 17 → ⊥) → (k ≡ 18 → ⊥) → (k ≡ 19 → ⊥) → getD kindFields k none-used ≡ none-used
 
-pub n-high : (k : ℕ) → getD (0 ∷ 0 ∷ 0 ∷ 0 ∷ 0 ∷ 0 ∷ 0 ∷ 0 ∷ 8 ∷ 0 ∷ 0 ∷ 0 ∷ 0 ∷ 0 ∷ 0 ∷ 255 ∷ 8 ∷ 8 ∷ 8 ∷ 0 ∷ []) k 0 ≡ getD kindFields k none-used .nHigh
-n-high k = List·getD-map (λ (f : Fields). f .nHigh) kindFields k none-used
+bare-at : Below Bare 20
+bare-at = ((((((((((((((((((((tt, (λ a b c d e f g h i j k. refl)), (λ a b c d e f g h i j k. absurd (a refl))), (λ a b c d e f g h i j k. absurd (b refl))), (λ a b c d e f g h i j k. refl)), (λ a b c d e f g h i j k. refl)), (λ a b c d e f g h i j k. absurd (c refl))), (λ a b c d e f g h i j k. refl)), (λ a b c d e f g h i j k. absurd (d refl))), (λ a b c d e f g h i j k. absurd (e refl))), (λ a b c d e f g h i j k. absurd (f refl))), (λ a b c d e f g h i j k. refl)), (λ a b c d e f g h i j k. refl)), (λ a b c d e f g h i j k. refl)), (λ a b c d e f g h i j k. refl)), (λ a b c d e f g h i j k. refl)), (λ a b c d e f g h i j k. absurd (g refl))), (λ a b c d e f g h i j k. absurd (h refl))), (λ a b c d e f g h i j k. absurd (i refl))), (λ a b c d e f g h i j k. absurd (j refl))), (λ a b c d e f g h i j k. absurd (k refl)))
 
-pub w-low : (k : ℕ) → getD (0 ∷ 0 ∷ 0 ∷ 0 ∷ 0 ∷ 1 ∷ 0 ∷ 1 ∷ 0 ∷ 1 ∷ 0 ∷ 0 ∷ 0 ∷ 0 ∷ 0 ∷ 0 ∷ 0 ∷ 0 ∷ 0 ∷ 1 ∷ []) k 0 ≡ getD kindFields k none-used .wLow
-w-low k = List·getD-map (λ (f : Fields). f .wLow) kindFields k none-used
-
-pub w-high : (k : ℕ) → getD (0 ∷ 4294967295 ∷ 4294967295 ∷ 0 ∷ 0 ∷ 65535 ∷ 0 ∷ 65535 ∷ 0 ∷ 65535 ∷ 0 ∷ 0 ∷ 0 ∷ 0 ∷ 0 ∷ 0 ∷ 0 ∷ 0 ∷ 0 ∷ 65535 ∷ []) k 0 ≡ getD kindFields k none-used .wHigh
-w-high k = List·getD-map (λ (f : Fields). f .wHigh) kindFields k none-used
+-- a kind that code does not name has no field
+pub bare-kind : (k : ℕ) → Bare k
+bare-kind x a b c d e f g h i j k = elim (decLt x 20) [ yes y ↦ below Bare 20 bare-at x y a b c d e f g h i j k | no y ↦ List·getD-eq-default kindFields none-used {n = x} (omega arith) ]
 
 never : (b : Bool) → b ∧ᵇ false ≡ false
 unfolding _∧ᵇ_

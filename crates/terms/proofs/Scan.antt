@@ -37,11 +37,13 @@ module _ (edition count : ℕ) (l : List (List ℕ)) (i owed : ℕ) (r : List �
   unfolding shapeFrom unless-bad
   shape-behind q z = rw (front, z) (rw (sym q) refl)
 
-  pub shape-on : none ≡ rowFault edition count r → (owed ≡ 0 → ⊥) → shapeFrom edition count (drop i l) owed i ≡ shapeFrom edition count (drop (i + 1) l) (owed - 1 + arity (rowOf r .head)) (i + 1)
+  pub shape-on : none ≡ rowFault edition count r → (owed ≡ 0 → ⊥) → shapeFrom edition count (drop i l) owed i ≡ shapeFrom edition count (drop (i + 1)
+      l) (owed - 1 + arity (rowOf r .head)) (i + 1)
   unfolding shapeFrom unless-bad
   shape-on q z = rw front (go owed z)
     where
-      go : (k : ℕ) → (k ≡ 0 → ⊥) → shapeFrom edition count (r ∷ drop (i + 1) l) k i ≡ shapeFrom edition count (drop (i + 1) l) (k - 1 + arity (rowOf r .head)) (i + 1)
+      go : (k : ℕ) → (k ≡ 0 → ⊥) → shapeFrom edition count (r ∷ drop (i + 1) l) k i ≡ shapeFrom edition count (drop (i + 1) l) (k - 1 + arity (rowOf r
+          .head)) (i + 1)
       go zero n = absurd (n refl)
       go (suc k) n =
           let c : k + arity (rowOf r .head) ≡ suc k - 1 + arity (rowOf r .head) = omega arith in
@@ -62,7 +64,8 @@ module _ (edition count : ℕ) (l : List (List ℕ)) (i owed : ℕ) (h : length 
       go (suc k) n = refl
 
 -- the row that code reads is the table's
-pub in-table : (s : List ℕ) (base n i : ℕ) (r : List ℕ) → i < n → r ≡ read termRow (drop (base + 8 * i) s) → (i < length (reads termRow n (drop base s))) × (getD (reads termRow n (drop base s)) i [] ≡ r)
+pub in-table : (s : List ℕ) (base n i : ℕ) (r : List ℕ) → i < n → r ≡ read termRow (drop (base + 8 * i) s) → (i < length (reads termRow n (drop base
+    s))) × (getD (reads termRow n (drop base s)) i [] ≡ r)
 in-table s base n i r h e = (omega (arith, rows-length termRow n (drop base s)), term-rows-at n i base s [] h ∙ sym e)
 
 -- Whole tables ---------------------------------------------------------------------------------------------------
@@ -72,7 +75,8 @@ unfolding unless-bad
 unless-whole none i s e = e
 unless-whole (some f) i s e = let z : _≡_ {A = ℕ} 0 1 = cc in absurd (omega arith)
 
-whole-sizes : (edition count : ℕ) (t : List (List ℕ)) (owed i : ℕ) → shapeFrom edition count t owed i ≡ Whole → sizes (kids owed (trees (map rowOf t))) ≡ length t
+whole-sizes : (edition count : ℕ) (t : List (List ℕ)) (owed i : ℕ) → shapeFrom edition count t owed i ≡ Whole → sizes (kids owed (trees (map rowOf
+    t))) ≡ length t
 unfolding shapeFrom kids trees size
 whole-sizes edition count [] zero i e = refl
 whole-sizes edition count [] (suc owed) i e = let z : _≡_ {A = ℕ} 0 1 = cc in absurd (omega arith)
@@ -82,10 +86,12 @@ whole-sizes edition count (r ∷ t) zero i e =
     absurd (omega arith)
 whole-sizes edition count (r ∷ t) (suc owed) i e =
     let a = arity (rowOf r .head) in
-    let q = whole-sizes edition count t (owed + a) (suc i) (unless-whole (rowFault edition count r) i (shapeFrom edition count t (owed + a) (suc i)) e) in
+    let q = whole-sizes edition count t (owed + a) (suc i) (unless-whole (rowFault edition count r) i (shapeFrom edition count t (owed + a) (suc i))
+    e) in
     omega (arith, sizes-split a owed (trees (map rowOf t)))
 
-whole-within : (edition count : ℕ) (t : List (List ℕ)) (owed i : ℕ) → shapeFrom edition count t owed i ≡ Whole → (j : ℕ) → j < length t → j + size (treeAt (map rowOf t) j) ≤ length t
+whole-within : (edition count : ℕ) (t : List (List ℕ)) (owed i : ℕ) → shapeFrom edition count t owed i ≡ Whole → (j : ℕ) → j < length t → j + size
+    (treeAt (map rowOf t) j) ≤ length t
 unfolding shapeFrom kids trees size treeAt top
 whole-within edition count [] owed i e j h = absurd (omega arith)
 whole-within edition count (r ∷ t) zero i e j h =
@@ -94,11 +100,13 @@ whole-within edition count (r ∷ t) zero i e j h =
     absurd (omega arith)
 whole-within edition count (r ∷ t) (suc owed) i e zero h =
     let a = arity (rowOf r .head) in
-    let q = whole-sizes edition count t (owed + a) (suc i) (unless-whole (rowFault edition count r) i (shapeFrom edition count t (owed + a) (suc i)) e) in
+    let q = whole-sizes edition count t (owed + a) (suc i) (unless-whole (rowFault edition count r) i (shapeFrom edition count t (owed + a) (suc i))
+    e) in
     omega (arith, sizes-split a owed (trees (map rowOf t)))
 whole-within edition count (r ∷ t) (suc owed) i e (suc j) h =
     let a = arity (rowOf r .head) in
-    let q = whole-within edition count t (owed + a) (suc i) (unless-whole (rowFault edition count r) i (shapeFrom edition count t (owed + a) (suc i)) e) j (omega arith) in
+    let q = whole-within edition count t (owed + a) (suc i) (unless-whole (rowFault edition count r) i (shapeFrom edition count t (owed + a) (suc i))
+    e) j (omega arith) in
     omega arith
 
 -- WHAT A SHAPE CHECK TELLS: the rows are one tree, and each row's tree ends within them
@@ -112,8 +120,10 @@ whole-closed edition count t e =
     first (t ∷ ts) = omega arith
 
 -- the same of a table of bytes
-pub bytes-closed : (edition count rows base : ℕ) (s : List ℕ) → shape edition count (reads termRow rows (drop base s)) ≡ Whole → Closed (map rowOf (reads termRow rows (drop base s))) rows
-bytes-closed edition count rows base s e = rw (rows-length termRow rows (drop base s)) at (whole-closed edition count (reads termRow rows (drop base s)) e)
+pub bytes-closed : (edition count rows base : ℕ) (s : List ℕ) → shape edition count (reads termRow rows (drop base s)) ≡ Whole → Closed (map rowOf
+    (reads termRow rows (drop base s))) rows
+bytes-closed edition count rows base s e = rw (rows-length termRow rows (drop base s)) at (whole-closed edition count (reads termRow rows (drop base
+    s)) e)
 
 -- Ends -----------------------------------------------------------------------------------------------------------
 
@@ -188,6 +198,18 @@ module _ (s : List ℕ) (base rows i : ℕ) (r : List ℕ) (h : i < rows) (e : r
   unfolding size
   size-here = ap size tree-here ∙ omega arith
 
+  -- the children of row i, where the entries behind it are right
+  module _ (closed : Closed terms rows) (es : List ℕ) (j a : ℕ) (right : EndsFrom terms j rows es) (next : j ≡ i + 1) (children : a ≡ arity (rowOf r
+      .head)) where
+    here : size (treeAt terms i) ≡ 1 + sizes (grove terms j a)
+    here = size-here ∙ ap (λ (x : ℕ). 1 + sizes (grove terms (i + 1) x)) (sym children) ∙ ap (λ (x : ℕ). 1 + sizes (grove terms x a)) (sym next)
+
+    pub past-in : rows ≤ length es → HopsIn es j a
+    past-in k = hops-ends terms rows j es right j a k (omega arith) (omega (arith, here, closed .within i h))
+
+    pub past-at : hop es j a ≡ i + size (treeAt terms i)
+    past-at = hop-ends terms rows j es right j a (omega arith) (omega (arith, here, closed .within i h)) ∙ omega (arith, here)
+
 -- one row of a walk by the trees still owed
 module _ (l : List Row) (i owed : ℕ) (z : owed ≡ 0 → ⊥) where
   pub owed-some : 1 ≤ sizes (grove l i owed)
@@ -197,7 +219,8 @@ module _ (l : List Row) (i owed : ℕ) (z : owed ≡ 0 → ⊥) where
       go zero n = absurd (n refl)
       go (suc k) n = omega (arith, grove-size l i k, size-some (treeAt l i))
 
-  pub owed-step : (r : Row) → i < length l → getD l i r ≡ r → i + sizes (grove l i owed) ≡ i + 1 + sizes (grove l (i + 1) (owed - 1 + arity (r .head)))
+  pub owed-step : (r : Row) → i < length l → getD l i r ≡ r → i + sizes (grove l i owed) ≡ i + 1 + sizes (grove l (i + 1) (owed - 1 + arity (r
+      .head)))
   unfolding grove trees kids size
   owed-step r h e = go owed z
     where

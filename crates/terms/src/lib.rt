@@ -6,11 +6,11 @@ use meaning::Shape;
 ghost use mathlib.Core.Path.{_≡_};
 ghost use mathlib.Core.List.{map};
 ghost use Prim.Native.Nat.{_+_, _*_, _≤_};
-ghost use lib.ListN.{length, drop};
+ghost use lib.ListN.{length, drop, getD};
 ghost use Rattle.layout.specs.Rows.{numbers};
 ghost use Rattle.meaning.specs.Bytes.{reads, termRow};
-ghost use Rattle.meaning.specs.Terms.{arity, rowOf, rowFault, shape, lastKind};
-ghost use Rattle.terms.specs.Tables.{faultOf, hop, HopsIn, Closed, Ends};
+ghost use Rattle.meaning.specs.Terms.{arity, rowOf, rowFault, shape, lastKind, any-word, a-number, an-n, none-used, kindFields};
+ghost use Rattle.terms.specs.Tables.{faultOf, fields, hop, HopsIn, Closed, Ends};
 
 // Whether a row's kind, fields and type number are in range.
 pub enum Faulty {
@@ -18,33 +18,88 @@ pub enum Faulty {
     Faulty(Fault),
 }
 
-// Children by kind, from kind 0 on; apply and tuple have as many as their n says.
-const CHILDREN: [usize; 20] = [0, 0, 0, 0, 0, 0, 1, 0, 0, 0, 3, 1, 0, 2, 1, 1, 0, 1, 1, 2];
-
-// Least and greatest n and word by kind, from kind 0 on.
-const N_LOW: [u8; 20] = [0, 0, 0, 0, 0, 0, 0, 0, 0, 0, 0, 0, 0, 0, 0, 1, 1, 1, 1, 0];
-const N_HIGH: [u8; 20] = [0, 0, 0, 0, 0, 0, 0, 0, 8, 0, 0, 0, 0, 0, 0, 255, 8, 8, 8, 0];
-const W_LOW: [u32; 20] = [0, 0, 0, 0, 0, 1, 0, 1, 0, 1, 0, 0, 0, 0, 0, 0, 0, 0, 0, 1];
-const W_HIGH: [u32; 20] = [
-    0, 4294967295, 4294967295, 0, 0, 65535, 0, 65535, 0, 65535, 0, 0, 0, 0, 0, 0, 0, 0, 0, 65535,
-];
+// Of a kind: the least and the most that n may be, the lowest and the highest word.
+pub struct Fields {
+    pub least: u8,
+    pub most: u8,
+    pub low: u32,
+    pub high: u32,
+}
 
 // How many children a row has.
 pub fn children(r: Row) -> usize
     ensures { λ c. ⌜ (c ≡ arity (rowOf (numbers r) .head)) × (c ≤ 256) ⌝ }
 {
     let k = r.kind;
-    if k == 8 {
-        return r.n as usize + 1;
+    let n = r.n as usize;
+    match k {
+        6 => 1,
+        8 => n + 1,
+        10 => 3,
+        11 => 1,
+        13 => 2,
+        14 => 1,
+        15 => 1,
+        16 => n,
+        17 => 1,
+        18 => 1,
+        19 => 2,
+        _ => 0,
     }
-    if k == 16 {
-        return r.n as usize;
+}
+
+// A word of any value; a number from 1 to 65,535; an n from `low` to `high`.
+fn any_word() -> Fields
+    ensures { λ f. ⌜ fields f ≡ any-word ⌝ }
+{
+    Fields {
+        least: 0,
+        most: 0,
+        low: 0,
+        high: 4294967295,
     }
-    let at = k as usize;
-    if at < 20 {
-        return CHILDREN[at];
+}
+
+fn a_number() -> Fields
+    ensures { λ f. ⌜ fields f ≡ a-number ⌝ }
+{
+    Fields {
+        least: 0,
+        most: 0,
+        low: 1,
+        high: 65535,
     }
-    0
+}
+
+fn an_n(low: u8, high: u8) -> Fields
+    ensures { λ f. ⌜ fields f ≡ an-n low high ⌝ }
+{
+    Fields {
+        least: low,
+        most: high,
+        low: 0,
+        high: 0,
+    }
+}
+
+// What n and word of a kind may be: by cases and not by arrays, which would be written out anew at each row.
+fn fields_of(k: u8) -> Fields
+    ensures { λ f. ⌜ fields f ≡ getD kindFields k none-used ⌝ }
+{
+    match k {
+        1 => any_word(),
+        2 => any_word(),
+        5 => a_number(),
+        7 => a_number(),
+        8 => an_n(0, 8),
+        9 => a_number(),
+        15 => an_n(1, 255),
+        16 => an_n(1, 8),
+        17 => an_n(1, 8),
+        18 => an_n(1, 8),
+        19 => a_number(),
+        _ => an_n(0, 0),
+    }
 }
 
 // The last kind that an edition of the file knows.
@@ -68,19 +123,19 @@ pub fn row_fault(r: Row, count: u16, edition: u16) -> Faulty
     if last_kind(edition) < k {
         return Faulty::Faulty(Fault::Kind);
     }
-    let at = k as usize;
+    let f = fields_of(k);
     let n = r.n;
-    if n < N_LOW[at] {
+    if n < f.least {
         return Faulty::Faulty(Fault::Field);
     }
-    if N_HIGH[at] < n {
+    if f.most < n {
         return Faulty::Faulty(Fault::Field);
     }
     let w = r.word;
-    if w < W_LOW[at] {
+    if w < f.low {
         return Faulty::Faulty(Fault::Field);
     }
-    if W_HIGH[at] < w {
+    if f.high < w {
         return Faulty::Faulty(Fault::Field);
     }
     let t = r.ty;

@@ -24,7 +24,16 @@ formBy f r ps =
 
 form-other : (f r : ℕ) (ps : List Param) → 8 ≤ f → formBy f r ps ≡ absent
 form-other f r ps h =
-    rw (ne-eqb f 1 (omega arith), ne-eqb f 2 (omega arith), ne-eqb f 3 (omega arith), ne-eqb f 4 (omega arith), ne-eqb f 5 (omega arith), ne-eqb f 6 (omega arith), ne-eqb f 7 (omega arith)) refl
+    rw (
+      ne-eqb f 1 (omega arith),
+      ne-eqb f 2 (omega arith),
+      ne-eqb f 3 (omega arith),
+      ne-eqb f 4 (omega arith),
+      ne-eqb f 5 (omega arith),
+      ne-eqb f 6
+          (omega arith),
+      ne-eqb f 7 (omega arith),
+    ) refl
 
 -- a fact of each number of a form
 by-form : (P : ℕ → Type 0) → Below P 8 → ((f : ℕ) → 8 ≤ f → P f) → (f : ℕ) → P f
@@ -33,25 +42,43 @@ by-form P b o f = elim (decLt f 8) [ yes h ↦ below P 8 b f h | no h ↦ o f (o
 module _ (r : ℕ) (ps : List Param) where
   base-by : (b : Base) (f : ℕ) → isBase b (formBy f r ps) ≡ eqb f (baseNo b)
   unfolding isBase baseNo
-  base-by Str = by-form (λ f. isBase Str (formBy f r ps) ≡ eqb f 1) ((((((((tt, refl), refl), refl), refl), refl), refl), refl), refl) (λ f h. rw (form-other f r ps h, ne-eqb f 1 (omega arith)) refl)
-  base-by File = by-form (λ f. isBase File (formBy f r ps) ≡ eqb f 2) ((((((((tt, refl), refl), refl), refl), refl), refl), refl), refl) (λ f h. rw (form-other f r ps h, ne-eqb f 2 (omega arith)) refl)
-  base-by Truth = by-form (λ f. isBase Truth (formBy f r ps) ≡ eqb f 3) ((((((((tt, refl), refl), refl), refl), refl), refl), refl), refl) (λ f h. rw (form-other f r ps h, ne-eqb f 3 (omega arith)) refl)
+  base-by Str = by-form (λ f. isBase Str (formBy f r ps) ≡ eqb f 1) ((((((((tt, refl), refl), refl), refl), refl), refl), refl), refl) (λ f h. rw
+      (form-other f r ps h, ne-eqb f 1 (omega arith)) refl)
+  base-by File = by-form (λ f. isBase File (formBy f r ps) ≡ eqb f 2) ((((((((tt, refl), refl), refl), refl), refl), refl), refl), refl) (λ f h. rw
+      (form-other f r ps h, ne-eqb f 2 (omega arith)) refl)
+  base-by Truth = by-form (λ f. isBase Truth (formBy f r ps) ≡ eqb f 3) ((((((((tt, refl), refl), refl), refl), refl), refl), refl), refl) (λ f h. rw
+      (form-other f r ps h, ne-eqb f 3 (omega arith)) refl)
 
   list-by : (k : ℕ → Bool) (f : ℕ) → whenList (formBy f r ps) k ≡ eqb f 4 ∧ᵇ k r
   unfolding whenList _∧ᵇ_
-  list-by k = by-form (λ f. whenList (formBy f r ps) k ≡ eqb f 4 ∧ᵇ k r) ((((((((tt, refl), refl), refl), refl), refl), refl), refl), refl) (λ f h. rw (form-other f r ps h, ne-eqb f 4 (omega arith)) refl)
+  list-by k = by-form (λ f. whenList (formBy f r ps) k ≡ eqb f 4 ∧ᵇ k r) ((((((((tt, refl), refl), refl), refl), refl), refl), refl), refl) (λ f h. rw
+      (form-other f r ps h, ne-eqb f 4 (omega arith)) refl)
 
   tuple-by : (k : List ℕ → Bool) (f : ℕ) → whenTuple (formBy f r ps) k ≡ eqb f 5 ∧ᵇ k (types ps)
   unfolding whenTuple _∧ᵇ_
-  tuple-by k = by-form (λ f. whenTuple (formBy f r ps) k ≡ eqb f 5 ∧ᵇ k (types ps)) ((((((((tt, refl), refl), refl), refl), refl), refl), refl), refl) (λ f h. rw (form-other f r ps h, ne-eqb f 5 (omega arith)) refl)
+  tuple-by k = by-form (λ f. whenTuple (formBy f r ps) k ≡ eqb f 5 ∧ᵇ k (types ps)) ((((((((tt, refl), refl), refl), refl), refl), refl), refl), refl)
+      (λ f h. rw (form-other f r ps h, ne-eqb f 5 (omega arith)) refl)
 
   fun-by : (k : Side → List Param → ℕ → Bool) (f : ℕ) → whenFun (formBy f r ps) k ≡ cond (eqb f 6) (k ntv ps r) (eqb f 7 ∧ᵇ k frn ps r)
   unfolding whenFun _∧ᵇ_
-  fun-by k = by-form (λ f. whenFun (formBy f r ps) k ≡ cond (eqb f 6) (k ntv ps r) (eqb f 7 ∧ᵇ k frn ps r)) ((((((((tt, refl), refl), refl), refl), refl), refl), refl), refl) (λ f h. rw (form-other f r ps h, ne-eqb f 6 (omega arith), ne-eqb f 7 (omega arith)) refl)
+  fun-by k = by-form (λ f. whenFun (formBy f r ps) k ≡ cond (eqb f 6) (k ntv ps r) (eqb f 7 ∧ᵇ k frn ps r)) (
+    (
+      (
+        (
+          ((((tt, refl), refl), refl), refl),
+          refl,
+        ),
+        refl,
+      ),
+      refl,
+    ),
+    refl,
+  ) (λ f h. rw (form-other f r ps h, ne-eqb f 6 (omega arith), ne-eqb f 7 (omega arith)) refl)
 
   params-by : (f : ℕ) → params (formBy f r ps) ≡ cond (isFunction f) ps []
   unfolding params
-  params-by = by-form (λ f. params (formBy f r ps) ≡ cond (isFunction f) ps []) ((((((((tt, refl), refl), refl), refl), refl), refl), refl), refl) (λ f h. rw (form-other f r ps h, ne-eqb f 6 (omega arith), ne-eqb f 7 (omega arith)) refl)
+  params-by = by-form (λ f. params (formBy f r ps) ≡ cond (isFunction f) ps []) ((((((((tt, refl), refl), refl), refl), refl), refl), refl), refl) (λ
+      f h. rw (form-other f r ps h, ne-eqb f 6 (omega arith), ne-eqb f 7 (omega arith)) refl)
 
 -- the same of a type row
 module _ (r : List ℕ) where
@@ -67,7 +94,8 @@ module _ (r : List ℕ) where
   unfolding formRow
   tuple-row k = tuple-by (result r) (parts r) k (formNo r)
 
-  pub fun-row : (k : Side → List Param → ℕ → Bool) → whenFun (formRow r) k ≡ cond (eqb (formNo r) 6) (k ntv (parts r) (result r)) (eqb (formNo r) 7 ∧ᵇ k frn (parts r) (result r))
+  pub fun-row : (k : Side → List Param → ℕ → Bool) → whenFun (formRow r) k ≡ cond (eqb (formNo r) 6) (k ntv (parts r) (result r)) (eqb (formNo r) 7 ∧ᵇ
+      k frn (parts r) (result r))
   unfolding formRow
   fun-row k = fun-by (result r) (parts r) k (formNo r)
 

@@ -43,7 +43,8 @@ place-beyond (suc zero) (t ∷ ts) h = absurd (omega arith)
 place-beyond (suc (suc n)) (t ∷ ts) h = place-beyond (suc n) ts (omega arith)
 
 -- the parts from the k-th on
-pub parts-front : (ps : List Param) (k : ℕ) → k < length ps → drop k ps ≡ record { name = getD (names ps) k 0; type = getD (types ps) k 0 } ∷ drop (k + 1) ps
+pub parts-front : (ps : List Param) (k : ℕ) → k < length ps → drop k ps ≡ record { name = getD (names ps) k 0; type = getD (types ps) k 0 } ∷ drop (k
+    + 1) ps
 unfolding names types
 parts-front [] k h = absurd (omega arith)
 parts-front (p ∷ ps) zero h = refl
@@ -57,7 +58,8 @@ no-more false b = refl
 
 -- the same parts
 pub params-same : (ps qs : List Param) (k j : ℕ) → k < length ps → j < length qs
-  → sameParams (drop k ps) (drop j qs) ≡ eqb (getD (names ps) k 0) (getD (names qs) j 0) ∧ᵇ (eqb (getD (types ps) k 0) (getD (types qs) j 0) ∧ᵇ sameParams (drop (k + 1) ps) (drop (j + 1) qs))
+    → sameParams (drop k ps) (drop j qs) ≡ eqb (getD (names ps) k 0) (getD (names qs) j 0) ∧ᵇ (eqb (getD (types ps) k 0) (getD (types qs) j 0) ∧ᵇ
+    sameParams (drop (k + 1) ps) (drop (j + 1) qs))
 unfolding sameParams
 params-same ps qs k j h g = rw (parts-front ps k h, parts-front qs j g) refl
 
@@ -77,8 +79,9 @@ params-end (p ∷ ps) qs h g = absurd (omega arith)
 -- zipped parts
 module _ (form : ℕ → Form) where
   pub zipped-more : (m : ℕ) (ps qs : List Param) (k : ℕ) → k < length ps → k < length qs
-    → zippedOk form m (drop k ps) (drop k qs)
-    ≡ eqb (getD (names qs) k 0) (getD (names ps) k 0) ∧ᵇ (maskedOk form (eqb (m % 2) 1) (getD (types ps) k 0) (getD (types qs) k 0) ∧ᵇ zippedOk form (m / 2) (drop (k + 1) ps) (drop (k + 1) qs))
+      → zippedOk form m (drop k ps) (drop k qs)
+      ≡ eqb (getD (names qs) k 0) (getD (names ps) k 0) ∧ᵇ (maskedOk form (eqb (m % 2) 1) (getD (types ps) k 0) (getD (types qs) k 0) ∧ᵇ zippedOk form
+      (m / 2) (drop (k + 1) ps) (drop (k + 1) qs))
   unfolding zippedOk low rest
   zipped-more m ps qs k h g = rw (parts-front ps k h, parts-front qs k g) refl
 

@@ -31,14 +31,96 @@ pub code-at : (c k n w : ℕ) → 2 ≤ c → c < 20 → eqb (code (headFrom k n
 unfolding headFrom code
 code-at c k n w h g =
     elim (decLt k 20) [
-      | yes q ↦ below (λ k. eqb (code (headFrom k n w)) c ≡ eqb k c) 20 ((((((((((((((((((((tt, ne-eqb 1 c (omega arith) ∙ sym (ne-eqb 0 c (omega arith))), refl), refl), refl), refl), refl), refl), refl), refl), refl), refl), refl), refl), refl), refl), refl), refl), refl), refl), refl) k q
+      | yes q ↦ below (λ k. eqb (code (headFrom k n w)) c ≡ eqb k c) 20 (
+        (
+          (
+            (
+              (
+                (
+                  (
+                    (
+                      (
+                        (
+                          (
+                            (
+                              (
+                                (
+                                  (
+                                    (
+                                      (
+                                        (
+                                          (
+                                            (
+                                              tt,
+                                              ne-eqb 1 c (omega arith) ∙ sym (ne-eqb 0 c (omega
+                                                  arith)),
+                                            ),
+                                            refl,
+                                          ),
+                                          refl,
+                                        ),
+                                        refl,
+                                      ),
+                                      refl,
+                                    ),
+                                    refl,
+                                  ),
+                                  refl,
+                                ),
+                                refl,
+                              ),
+                              refl,
+                            ),
+                            refl,
+                          ),
+                          refl,
+                        ),
+                        refl,
+                      ),
+                      refl,
+                    ),
+                    refl,
+                  ),
+                  refl,
+                ),
+                refl,
+              ),
+              refl,
+            ),
+            refl,
+          ),
+          refl,
+        ),
+        refl,
+      ) k q
       | no q ↦ rw (head-other k n w (omega arith)) (ne-eqb 1 c (omega arith) ∙ sym (ne-eqb k c (omega arith)))
     ]
 
 -- the kinds that are left
-pub head-literal : (k n w : ℕ) → (k ≡ 2 → ⊥) → (k ≡ 3 → ⊥) → (k ≡ 4 → ⊥) → (k ≡ 5 → ⊥) → (k ≡ 6 → ⊥) → (k ≡ 7 → ⊥) → (k ≡ 8 → ⊥) → (k ≡ 9 → ⊥) → (k ≡ 10 → ⊥) → (k ≡ 11 → ⊥) → (k ≡ 12 → ⊥) → (k ≡ 13 → ⊥) → (k ≡ 14 → ⊥) → (k ≡ 15 → ⊥) → (k ≡ 16 → ⊥) → (k ≡ 17 → ⊥) → (k ≡ 18 → ⊥) → (k ≡ 19 → ⊥) → headFrom k n w ≡ lit (str w)
+pub head-literal : (k n w : ℕ) → (k ≡ 2 → ⊥) → (k ≡ 3 → ⊥) → (k ≡ 4 → ⊥) → (k ≡ 5 → ⊥) → (k ≡ 6 → ⊥) → (k ≡ 7 → ⊥) → (k ≡ 8 → ⊥) → (k ≡ 9 → ⊥) → (k ≡
+    10 → ⊥) → (k ≡ 11 → ⊥) → (k ≡ 12 → ⊥) → (k ≡ 13 → ⊥) → (k ≡ 14 → ⊥) → (k ≡ 15 → ⊥) → (k ≡ 16 → ⊥) → (k ≡ 17 → ⊥) → (k ≡ 18 → ⊥) → (k ≡ 19 → ⊥) →
+    headFrom k n w ≡ lit (str w)
 unfolding headFrom
-head-literal k n w e2 e3 e4 e5 e6 e7 e8 e9 e10 e11 e12 e13 e14 e15 e16 e17 e18 e19 = rw (ne-eqb k 2 e2, ne-eqb k 3 e3, ne-eqb k 4 e4, ne-eqb k 5 e5, ne-eqb k 6 e6, ne-eqb k 7 e7, ne-eqb k 8 e8, ne-eqb k 9 e9, ne-eqb k 10 e10, ne-eqb k 11 e11, ne-eqb k 12 e12, ne-eqb k 13 e13, ne-eqb k 14 e14, ne-eqb k 15 e15, ne-eqb k 16 e16, ne-eqb k 17 e17, ne-eqb k 18 e18, ne-eqb k 19 e19) refl
+head-literal k n w e2 e3 e4 e5 e6 e7 e8 e9 e10 e11 e12 e13 e14 e15 e16 e17 e18 e19 = rw (
+  ne-eqb k 2 e2,
+  ne-eqb k 3 e3,
+  ne-eqb k 4 e4,
+  ne-eqb k 5 e5,
+  ne-eqb k 6 e6,
+  ne-eqb k 7 e7,
+  ne-eqb k 8 e8,
+  ne-eqb k 9 e9,
+  ne-eqb k 10 e10,
+  ne-eqb k 11 e11,
+  ne-eqb k 12 e12,
+  ne-eqb k 13 e13,
+  ne-eqb k 14 e14,
+  ne-eqb k 15 e15,
+  ne-eqb k 16 e16,
+  ne-eqb k 17 e17,
+  ne-eqb k 18 e18,
+  ne-eqb k 19 e19,
+) refl
 
 -- What rows state ------------------------------------------------------------------------------------------------
 
@@ -107,7 +189,7 @@ module _ (l : List Row) (ts : List ℕ) where
   types-lengths at n h = numbers-lengths (list (tys (grove l at n))) ts (λ e. h (sym e ∙ list-length (tys (grove l at n))))
 
   pub types-more : (p k m m′ : ℕ) → m ≡ suc m′ → k < length ts → sameNumbers (list (tys (grove l p m))) (drop k ts)
-    ≡ eqb (tyOf (treeAt l p)) (getD ts k 0) ∧ᵇ sameNumbers (list (tys (grove l (p + size (treeAt l p)) m′))) (drop (k + 1) ts)
+      ≡ eqb (tyOf (treeAt l p)) (getD ts k 0) ∧ᵇ sameNumbers (list (tys (grove l (p + size (treeAt l p)) m′))) (drop (k + 1) ts)
   unfolding sameNumbers list tys
   types-more p k m m′ e h =
       ap (λ (x : ℕ). sameNumbers (list (tys (grove l p x))) (drop k ts)) e
@@ -128,7 +210,8 @@ unfolding tys grove kids
 tys-none l p = refl
 
 module _ (l : List Row) (es : List ℕ) (rows p q r : ℕ) (ends : Ends l rows es) (eq : q ≡ behind es rows p) (er : r ≡ behind es rows q) where
-  pub tys-three : (n : ℕ) → n ≤ 3 → p + sizes (grove l p n) ≤ rows → tys (grove l p n) ≡ three n (tyOf (treeAt l p)) (tyOf (treeAt l q)) (tyOf (treeAt l r))
+  pub tys-three : (n : ℕ) → n ≤ 3 → p + sizes (grove l p n) ≤ rows → tys (grove l p n) ≡ three n (tyOf (treeAt l p)) (tyOf (treeAt l q)) (tyOf (treeAt
+      l r))
   unfolding three
   tys-three zero h g = tys-none l p
   tys-three (suc zero) h g = tys-more l p 0 ∙ ap (λ (us : Tys 0). tyOf (treeAt l p) ▹ us) (tys-none l (p + size (treeAt l p)))
@@ -137,7 +220,8 @@ module _ (l : List Row) (es : List ℕ) (rows p q r : ℕ) (ends : Ends l rows e
       let e : p + size (treeAt l p) ≡ q = sym (eq ∙ behind-in l es rows p ends (omega (arith, size-some (treeAt l p)))) in
       tys-more l p 1
       ∙ ap (λ (x : ℕ). tyOf (treeAt l p) ▹ tys (grove l x 1)) e
-      ∙ ap (λ (us : Tys 1). tyOf (treeAt l p) ▹ us) (tys-more l q 0 ∙ ap (λ (us : Tys 0). tyOf (treeAt l q) ▹ us) (tys-none l (q + size (treeAt l q))))
+      ∙ ap (λ (us : Tys 1). tyOf (treeAt l p) ▹ us) (tys-more l q 0 ∙ ap (λ (us : Tys 0). tyOf (treeAt l q) ▹ us) (tys-none l (q + size (treeAt l
+      q))))
   tys-three (suc (suc (suc zero))) h g =
       let z = grove-size l p 2 in
       let e : p + size (treeAt l p) ≡ q = sym (eq ∙ behind-in l es rows p ends (omega (arith, size-some (treeAt l p)))) in
@@ -149,18 +233,20 @@ module _ (l : List Row) (es : List ℕ) (rows p q r : ℕ) (ends : Ends l rows e
       ∙ ap (λ (us : Tys 2). tyOf (treeAt l p) ▹ us)
       (tys-more l q 1
       ∙ ap (λ (x : ℕ). tyOf (treeAt l q) ▹ tys (grove l x 1)) f
-      ∙ ap (λ (us : Tys 1). tyOf (treeAt l q) ▹ us) (tys-more l r 0 ∙ ap (λ (us : Tys 0). tyOf (treeAt l r) ▹ us) (tys-none l (r + size (treeAt l r)))))
+      ∙ ap (λ (us : Tys 1). tyOf (treeAt l q) ▹ us) (tys-more l r 0 ∙ ap (λ (us : Tys 0). tyOf (treeAt l r) ▹ us) (tys-none l (r + size (treeAt l
+      r)))))
   tys-three (suc (suc (suc (suc n)))) h g = absurd (omega arith)
 
 -- Rules by kind --------------------------------------------------------------------------------------------------
 
 -- the rule of the head that a kind makes
 pub at-kind : (F : ℕ → Form) (k n w ty a b c : ℕ) (h : Head) (o : Bool) → headFrom k n w ≡ h → o ≡ ruleOk F empty h ty (three (arity h) a b c)
-  → o ≡ ruleOk F empty (headFrom k n w) ty (three (arity (headFrom k n w)) a b c)
+    → o ≡ ruleOk F empty (headFrom k n w) ty (three (arity (headFrom k n w)) a b c)
 at-kind F k n w ty a b c h o e q = q ∙ ap (λ (h : Head). ruleOk F empty h ty (three (arity h) a b c)) (sym e)
 
 -- names around a row matter only to a variable
-pub rule-any : (F : ℕ → Form) (Γ : Ctx) (h : Head) (ty : ℕ) (ts : Tys (arity h)) → eqb (code h) 5 ≡ false → ruleOk F Γ h ty ts ≡ ruleOk F empty h ty ts
+pub rule-any : (F : ℕ → Form) (Γ : Ctx) (h : Head) (ty : ℕ) (ts : Tys (arity h)) → eqb (code h) 5 ≡ false → ruleOk F Γ h ty ts ≡ ruleOk F empty h ty
+    ts
 unfolding ruleOk code
 rule-any F Γ (lit l) ty ⟨⟩ e = refl
 rule-any F Γ (var x) ty ts e = absurd (eqb-false 5 5 e refl)
@@ -182,7 +268,8 @@ rule-any F Γ (bind x) ty (a ▹ b ▹ ⟨⟩) e = refl
 -- Binders --------------------------------------------------------------------------------------------------------
 
 -- only a native function and a let bind names
-pub scope-none : (F : ℕ → Form) (h : Head) (ty : ℕ) (ts : Tys (arity h)) (q : ℕ) → eqb (code h) 6 ≡ false → eqb (code h) 19 ≡ false → scope F h ty ts q ≡ []
+pub scope-none : (F : ℕ → Form) (h : Head) (ty : ℕ) (ts : Tys (arity h)) (q : ℕ) → eqb (code h) 6 ≡ false → eqb (code h) 19 ≡ false → scope F h ty ts
+    q ≡ []
 unfolding scope code
 scope-none F (lit l) ty ts q e f = refl
 scope-none F (var x) ty ts q e f = refl
@@ -207,7 +294,8 @@ module _ (F : ℕ → Form) (s : List ℕ) (base rows p k n ty w : ℕ) (h : p <
 
   pub binds-native : k ≡ 6 → binds F (treeAt l p) ≡ params (F ty)
   unfolding binds headFrom scope
-  binds-native q = ap (binds F) (tree-in s base rows p k n ty w h e) ∙ ap (λ (x : ℕ). binds F (node (headFrom x n w) ty (grove l (p + 1) (arity (headFrom x n w))))) q
+  binds-native q = ap (binds F) (tree-in s base rows p k n ty w h e) ∙ ap (λ (x : ℕ). binds F (node (headFrom x n w) ty (grove l (p + 1) (arity
+      (headFrom x n w))))) q
 
   pub binds-let : k ≡ 19 → binds F (treeAt l p) ≡ record { name = w; type = tyOf (treeAt l (p + 1)) } ∷ []
   unfolding binds headFrom scope
@@ -216,20 +304,24 @@ module _ (F : ℕ → Form) (s : List ℕ) (base rows p k n ty w : ℕ) (h : p <
       let j = p + 1 + size t in
       ap (binds F) (tree-in s base rows p k n ty w h e)
       ∙ ap (λ (x : ℕ). binds F (node (headFrom x n w) ty (grove l (p + 1) (arity (headFrom x n w))))) q
-      ∙ ap (λ (us : Tys 2). scope F (bind w) ty us 1) (tys-more l (p + 1) 1 ∙ ap (λ (us : Tys 1). tyOf t ▹ us) (tys-more l j 0 ∙ ap (λ (us : Tys 0). tyOf (treeAt l j) ▹ us) (tys-none l (j + size (treeAt l j)))))
+      ∙ ap (λ (us : Tys 2). scope F (bind w) ty us 1) (tys-more l (p + 1) 1 ∙ ap (λ (us : Tys 1). tyOf t ▹ us) (tys-more l j 0 ∙ ap (λ (us : Tys 0).
+      tyOf (treeAt l j) ▹ us) (tys-none l (j + size (treeAt l j)))))
 
   pub binds-none : (k ≡ 6 → ⊥) → (k ≡ 19 → ⊥) → binds F (treeAt l p) ≡ []
   unfolding binds
   binds-none a b =
       ap (binds F) (tree-in s base rows p k n ty w h e)
-      ∙ scope-none F (headFrom k n w) ty (tys (grove l (p + 1) (arity (headFrom k n w)))) 1 (code-at 6 k n w (omega arith) (omega arith) ∙ ne-eqb k 6 a) (code-at 19 k n w (omega arith) (omega arith) ∙ ne-eqb k 19 b)
+      ∙ scope-none F (headFrom k n w) ty (tys (grove l (p + 1) (arity (headFrom k n w)))) 1 (code-at 6 k n w (omega arith) (omega arith) ∙ ne-eqb k 6
+      a) (code-at 19 k n w (omega arith) (omega arith) ∙ ne-eqb k 19 b)
 
 -- a name among those that one binder binds
-pub find-here : (ps : List Param) (k x : ℕ) (q : List Param) (y t : ℕ) → drop k ps ≡ record { name = y; type = t } ∷ q → y ≡ x → find (drop k ps) x ≡ some t
+pub find-here : (ps : List Param) (k x : ℕ) (q : List Param) (y t : ℕ) → drop k ps ≡ record { name = y; type = t } ∷ q → y ≡ x → find (drop k ps) x ≡
+    some t
 unfolding find
 find-here ps k x q y t e h = rw (e, eq-eqb x y (sym h)) refl
 
-pub find-later : (ps : List Param) (k x : ℕ) (q : List Param) (y t : ℕ) → drop k ps ≡ record { name = y; type = t } ∷ q → (y ≡ x → ⊥) → find (drop k ps) x ≡ find q x
+pub find-later : (ps : List Param) (k x : ℕ) (q : List Param) (y t : ℕ) → drop k ps ≡ record { name = y; type = t } ∷ q → (y ≡ x → ⊥) → find (drop k
+    ps) x ≡ find q x
 unfolding find
 find-later ps k x q y t e h = rw (e, ne-eqb x y (λ z. h (sym z))) refl
 

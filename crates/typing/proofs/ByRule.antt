@@ -56,7 +56,8 @@ unfolding _∧ᵇ_
 seven f = elim (ℕ-discrete f 6) [ yes e ↦ rw e refl | no e ↦ rw (ne-eqb f 6 e) (and-true (eqb f 7)) ]
 
 -- two functions on the same side
-same-sides : (f g : ℕ) (x : Bool) → cond (eqb f 6) (cond (eqb g 6) (true ∧ᵇ x) (eqb g 7 ∧ᵇ (false ∧ᵇ x))) (eqb f 7 ∧ᵇ cond (eqb g 6) (false ∧ᵇ x) (eqb g 7 ∧ᵇ (true ∧ᵇ x))) ≡ isFunction f ∧ᵇ (eqb g f ∧ᵇ x)
+same-sides : (f g : ℕ) (x : Bool) → cond (eqb f 6) (cond (eqb g 6) (true ∧ᵇ x) (eqb g 7 ∧ᵇ (false ∧ᵇ x))) (eqb f 7 ∧ᵇ cond (eqb g 6) (false ∧ᵇ x) (eqb
+    g 7 ∧ᵇ (true ∧ᵇ x))) ≡ isFunction f ∧ᵇ (eqb g f ∧ᵇ x)
 unfolding _∧ᵇ_
 same-sides f g x =
     elim (ℕ-discrete f 6) [
@@ -72,7 +73,8 @@ same-sides f g x =
     six false true = refl
     six false false = refl
 
-first-part : (ps : List Param) (ty : ℕ) (k : List Param → Bool) → whenMore ps (λ p qs. eqb (p .type) ty ∧ᵇ k qs) ≡ given (place 1 (types ps)) ty ∧ᵇ k (drop 1 ps)
+first-part : (ps : List Param) (ty : ℕ) (k : List Param → Bool) → whenMore ps (λ p qs. eqb (p .type) ty ∧ᵇ k qs) ≡ given (place 1 (types ps)) ty ∧ᵇ k
+    (drop 1 ps)
 unfolding whenMore types place given _∧ᵇ_
 first-part [] ty k = refl
 first-part (p ∷ ps) ty k = refl
@@ -88,15 +90,18 @@ module _ (s : List ℕ) (base count : ℕ) where
   unfolding formOf says
   base-says b t = base-row (says s base count t) b
 
-  pub list-says : (t : ℕ) (k : ℕ → Bool) → whenList (forms s base count t) k ≡ eqb (formNo (says s base count t)) 4 ∧ᵇ k (result (says s base count t))
+  pub list-says : (t : ℕ) (k : ℕ → Bool) → whenList (forms s base count t) k ≡ eqb (formNo (says s base count t)) 4 ∧ᵇ k (result (says s base count
+      t))
   unfolding formOf says
   list-says t k = list-row (says s base count t) k
 
-  pub tuple-says : (t : ℕ) (k : List ℕ → Bool) → whenTuple (forms s base count t) k ≡ eqb (formNo (says s base count t)) 5 ∧ᵇ k (partTypes (says s base count t))
+  pub tuple-says : (t : ℕ) (k : List ℕ → Bool) → whenTuple (forms s base count t) k ≡ eqb (formNo (says s base count t)) 5 ∧ᵇ k (partTypes (says s
+      base count t))
   unfolding formOf says
   tuple-says t k = tuple-row (says s base count t) k
 
-  fun-says : (t : ℕ) (k : Side → List Param → ℕ → Bool) → whenFun (F t) k ≡ cond (eqb (formNo (R t)) 6) (k ntv (parts (R t)) (result (R t))) (eqb (formNo (R t)) 7 ∧ᵇ k frn (parts (R t)) (result (R t)))
+  fun-says : (t : ℕ) (k : Side → List Param → ℕ → Bool) → whenFun (F t) k ≡ cond (eqb (formNo (R t)) 6) (k ntv (parts (R t)) (result (R t))) (eqb
+      (formNo (R t)) 7 ∧ᵇ k frn (parts (R t)) (result (R t)))
   unfolding formOf says
   fun-says t k = fun-row (says s base count t) k
 
@@ -120,9 +125,11 @@ module _ (s : List ℕ) (base count : ℕ) where
         ]
 
   -- a native function; a foreign one; either
-  native-says : (t : ℕ) (k : List Param → ℕ → Bool) → whenFun (F t) (λ d ps r. sameSide d ntv ∧ᵇ k ps r) ≡ eqb (formNo (R t)) 6 ∧ᵇ k (parts (R t)) (result (R t))
+  native-says : (t : ℕ) (k : List Param → ℕ → Bool) → whenFun (F t) (λ d ps r. sameSide d ntv ∧ᵇ k ps r) ≡ eqb (formNo (R t)) 6 ∧ᵇ k (parts (R t))
+      (result (R t))
   unfolding sameSide _∧ᵇ_
-  native-says t k = fun-says t (λ d ps r. sameSide d ntv ∧ᵇ k ps r) ∙ rw (and-never (eqb (formNo (R t)) 7)) (one-side (eqb (formNo (R t)) 6) (k (parts (R t)) (result (R t))))
+  native-says t k = fun-says t (λ d ps r. sameSide d ntv ∧ᵇ k ps r) ∙ rw (and-never (eqb (formNo (R t)) 7)) (one-side (eqb (formNo (R t)) 6) (k (parts
+      (R t)) (result (R t))))
 
   either-says : (t : ℕ) (k : List Param → ℕ → Bool) → whenFun (F t) (λ d ps r. k ps r) ≡ isFunction (formNo (R t)) ∧ᵇ k (parts (R t)) (result (R t))
   either-says t k = fun-says t (λ d ps r. k ps r) ∙ either-side (eqb (formNo (R t)) 6) (eqb (formNo (R t)) 7) (k (parts (R t)) (result (R t)))
@@ -140,7 +147,8 @@ module _ (s : List ℕ) (base count : ℕ) where
     unfolding ruleOk sameSide
     rule-foreign w = fun-says ty (λ d ps r. sameSide d frn) ∙ seven (formNo (R ty))
 
-    pub rule-apply : (n c : ℕ) (us : Tys n) → ruleOk F Γ (apply n) ty (c ▹ us) ≡ isFunction (formNo (R c)) ∧ᵇ (eqb (result (R c)) ty ∧ᵇ sameNumbers (list us) (partTypes (R c)))
+    pub rule-apply : (n c : ℕ) (us : Tys n) → ruleOk F Γ (apply n) ty (c ▹ us) ≡ isFunction (formNo (R c)) ∧ᵇ (eqb (result (R c)) ty ∧ᵇ sameNumbers
+        (list us) (partTypes (R c)))
     unfolding ruleOk
     rule-apply n c us = either-says c (λ ps r. eqb r ty ∧ᵇ sameNumbers (list us) (types ps))
 
@@ -169,7 +177,8 @@ module _ (s : List ℕ) (base count : ℕ) where
     rule-project i c = tuple-says c (λ ts. given (place i ts) ty)
 
     pub rule-lproject : (i c : ℕ) → ruleOk F Γ (lproject i) ty (c ▹ ⟨⟩)
-      ≡ eqb (formNo (R c)) 4 ∧ᵇ (eqb (formNo (R (result (R c)))) 5 ∧ᵇ (eqb (formNo (R ty)) 4 ∧ᵇ given (place i (partTypes (R (result (R c))))) (result (R ty))))
+        ≡ eqb (formNo (R c)) 4 ∧ᵇ (eqb (formNo (R (result (R c)))) 5 ∧ᵇ (eqb (formNo (R ty)) 4 ∧ᵇ given (place i (partTypes (R (result (R c)))))
+        (result (R ty))))
     unfolding ruleOk
     rule-lproject i c =
         let e = result (R c) in
@@ -179,16 +188,20 @@ module _ (s : List ℕ) (base count : ℕ) where
         ∙ ap (λ (x : Bool). eqb (formNo (R e)) 5 ∧ᵇ x) (list-says ty (λ r. given (place i (partTypes (R e))) r)))
 
     pub rule-fix : (c : ℕ) → ruleOk F Γ fix ty (c ▹ ⟨⟩)
-      ≡ eqb (formNo (R c)) 6 ∧ᵇ (given (place 1 (partTypes (R c))) ty ∧ᵇ (eqb (formNo (R ty)) 6 ∧ᵇ (sameParams (parts (R ty)) (drop 1 (parts (R c))) ∧ᵇ eqb (result (R ty)) (result (R c)))))
+        ≡ eqb (formNo (R c)) 6 ∧ᵇ (given (place 1 (partTypes (R c))) ty ∧ᵇ (eqb (formNo (R ty)) 6 ∧ᵇ (sameParams (parts (R ty)) (drop 1 (parts (R c)))
+        ∧ᵇ eqb (result (R ty)) (result (R c)))))
     unfolding ruleOk
     rule-fix c =
-        native-says c (λ ps r. whenMore ps (λ p qs. eqb (p .type) ty ∧ᵇ whenFun (F ty) (λ s′ ps′ r′. sameSide s′ ntv ∧ᵇ (sameParams ps′ qs ∧ᵇ eqb r′ r))))
+        native-says c (λ ps r. whenMore ps (λ p qs. eqb (p .type) ty ∧ᵇ whenFun (F ty) (λ s′ ps′ r′. sameSide s′ ntv ∧ᵇ (sameParams ps′ qs ∧ᵇ eqb r′
+        r))))
         ∙ ap (λ (x : Bool). eqb (formNo (R c)) 6 ∧ᵇ x)
         (first-part (parts (R c)) ty (λ qs. whenFun (F ty) (λ s′ ps′ r′. sameSide s′ ntv ∧ᵇ (sameParams ps′ qs ∧ᵇ eqb r′ (result (R c)))))
-        ∙ ap (λ (x : Bool). given (place 1 (partTypes (R c))) ty ∧ᵇ x) (native-says ty (λ ps′ r′. sameParams ps′ (drop 1 (parts (R c))) ∧ᵇ eqb r′ (result (R c)))))
+        ∙ ap (λ (x : Bool). given (place 1 (partTypes (R c))) ty ∧ᵇ x) (native-says ty (λ ps′ r′. sameParams ps′ (drop 1 (parts (R c))) ∧ᵇ eqb r′
+        (result (R c)))))
 
     pub rule-zip : (m c : ℕ) → ruleOk F Γ (zip m) ty (c ▹ ⟨⟩)
-      ≡ isFunction (formNo (R c)) ∧ᵇ (eqb (formNo (R ty)) (formNo (R c)) ∧ᵇ (whenList (F (result (R ty))) (λ e. eqb e (result (R c))) ∧ᵇ zippedOk F m (parts (R c)) (parts (R ty))))
+        ≡ isFunction (formNo (R c)) ∧ᵇ (eqb (formNo (R ty)) (formNo (R c)) ∧ᵇ (whenList (F (result (R ty))) (λ e. eqb e (result (R c))) ∧ᵇ zippedOk F
+        m (parts (R c)) (parts (R ty))))
     unfolding ruleOk sameSide
     rule-zip m c =
         let x = whenList (F (result (R ty))) (λ e. eqb e (result (R c))) ∧ᵇ zippedOk F m (parts (R c)) (parts (R ty)) in

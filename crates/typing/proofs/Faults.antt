@@ -49,7 +49,8 @@ module _ (form : ℕ → Form) (l : List Row) where
   chain-enough sc (suc d) (suc e) (suc b) w h k =
       ap (λ (Γ : Ctx). Γ ⹁ binds form (treeAt l b)) (chain-enough sc d e (getD sc b 0) w (omega (arith, w b)) (omega (arith, w b)))
 
-  pub chain-agree : (sc sc′ : List ℕ) (i d v : ℕ) → ((p : ℕ) → p < i → getD sc p 0 ≡ getD sc′ p 0) → ((p : ℕ) → getD sc p 0 ≤ p) → v ≤ i → chain form l sc d v ≡ chain form l sc′ d v
+  pub chain-agree : (sc sc′ : List ℕ) (i d v : ℕ) → ((p : ℕ) → p < i → getD sc p 0 ≡ getD sc′ p 0) → ((p : ℕ) → getD sc p 0 ≤ p) → v ≤ i → chain form
+      l sc d v ≡ chain form l sc′ d v
   unfolding chain
   chain-agree sc sc′ i zero v e w h = refl
   chain-agree sc sc′ i (suc d) zero e w h = refl
@@ -58,12 +59,14 @@ module _ (form : ℕ → Form) (l : List Row) where
       (chain-agree sc sc′ i d (getD sc b 0) e w (omega (arith, w b)) ∙ ap (chain form l sc′ d) (e b (omega arith)))
 
   -- one binder more
-  pub chain-more : (sc : List ℕ) (b : ℕ) → ((p : ℕ) → getD sc p 0 ≤ p) → chain form l sc (suc b) (suc b) ≡ around form l sc b ⹁ binds form (treeAt l b)
+  pub chain-more : (sc : List ℕ) (b : ℕ) → ((p : ℕ) → getD sc p 0 ≤ p) → chain form l sc (suc b) (suc b) ≡ around form l sc b ⹁ binds form (treeAt l
+      b)
   unfolding chain
   chain-more sc b w = ap (λ (Γ : Ctx). Γ ⹁ binds form (treeAt l b)) (chain-enough sc b (getD sc b 0) (getD sc b 0) w (w b) (omega arith))
 
   -- the walk reads only the entries of trees to come
-  pub walk-agree : (sc sc′ : List ℕ) (e n j : ℕ) → ((p : ℕ) → e ≤ p → around form l sc p ≡ around form l sc′ p) → e ≤ j → walk form l sc n j ≡ walk form l sc′ n j
+  pub walk-agree : (sc sc′ : List ℕ) (e n j : ℕ) → ((p : ℕ) → e ≤ p → around form l sc p ≡ around form l sc′ p) → e ≤ j → walk form l sc n j ≡ walk
+      form l sc′ n j
   unfolding walk
   walk-agree sc sc′ e zero j q h = refl
   walk-agree sc sc′ e (suc n) j q h =
@@ -126,18 +129,18 @@ module _ (form : ℕ → Form) (l : List Row) where
   Hands sc Γ s j (suc m) = (around form l sc j ≡ Γ ⹁ s 0) × Hands sc Γ (λ q. s (suc q)) (j + size (treeAt l j)) m
 
   hands : (v : ℕ → ℕ) (Γ : Ctx) (s : ℕ → List Param) (k m j : ℕ) (sc sc′ : List ℕ) → sc′ ≡ handOn l v k m j sc
-    → j + sizes (grove l j m) ≤ length sc → ((q : ℕ) → chain form l sc′ (v (k + q)) (v (k + q)) ≡ Γ ⹁ s q) → Hands sc′ Γ s j m
+      → j + sizes (grove l j m) ≤ length sc → ((q : ℕ) → chain form l sc′ (v (k + q)) (v (k + q)) ≡ Γ ⹁ s q) → Hands sc′ Γ s j m
   unfolding handOn size
   hands v Γ s k zero j sc sc′ e h g = tt
   hands v Γ s k (suc m) j sc sc′ e h g =
       let z : sizes (grove l j (suc m)) ≡ size (treeAt l j) + sizes (grove l (j + size (treeAt l j)) m) = ap sizes (grove-more l j m) in
       let n = size-some (treeAt l j) in
       let j′ = j + size (treeAt l j) in
-      let b : getD sc′ j 0 ≡ v k = ap (λ (x : List ℕ). getD x j 0) e ∙ hand-before l v (suc k) m j′ j (set sc j (v k)) (omega arith) ∙ getD-set-same sc j (v k) 0 (omega arith) in
-      (
+      let b : getD sc′ j 0 ≡ v k = ap (λ (x : List ℕ). getD x j 0) e ∙ hand-before l v (suc k) m j′ j (set sc j (v k)) (omega arith) ∙ getD-set-same
+      sc j (v k) 0 (omega arith) in (
         ap (λ (x : ℕ). chain form l sc′ x x) (b ∙ ap v (sym (add-zero k))) ∙ g 0,
         hands v Γ (λ q. s (suc q)) (suc k) m j′ (set sc j (v k)) sc′ e (rw length-set (omega arith))
-        (λ q. let c : suc k + q ≡ k + suc q = omega arith in ap (λ (x : ℕ). chain form l sc′ (v x) (v x)) c ∙ g (suc q)),
+            (λ q. let c : suc k + q ≡ k + suc q = omega arith in ap (λ (x : ℕ). chain form l sc′ (v x) (v x)) c ∙ g (suc q)),
       )
 
   then-more : (j s : ℕ) (o p q : Option ℕ) → before (later j (before o (later s p))) q ≡ before (later j o) (before (later (j + s) p) q)
@@ -147,7 +150,7 @@ module _ (form : ℕ → Form) (l : List Row) where
 
   -- the children's first fault, and then that of the trees behind them
   kids-walk : (sc : List ℕ) (Γ : Ctx) (n a j : ℕ) (s : ℕ → List Param) → Hands sc Γ s j a
-    → before (later j (firstBads form Γ s (grove l j a))) (walk form l sc n (j + sizes (grove l j a))) ≡ walk form l sc (n + a) j
+      → before (later j (firstBads form Γ s (grove l j a))) (walk form l sc n (j + sizes (grove l j a))) ≡ walk form l sc (n + a) j
   unfolding grove kids firstBad before later size
   kids-walk sc Γ n zero j s h = let e : j + 0 ≡ j = omega arith in rw (add-zero n, e) refl
   kids-walk sc Γ n (suc a) j s (b, h) =
@@ -156,7 +159,8 @@ module _ (form : ℕ → Form) (l : List Row) where
       let c : j + (size t + sizes g) ≡ j + size t + sizes g = omega arith in
       ap (λ (f : Forest (suc a)). before (later j (firstBads form Γ s f)) (walk form l sc n (j + sizes f))) (grove-more l j a)
       ∙ then-more j (size t) (firstBad form (Γ ⹁ s 0) t) (firstBads form Γ (λ q. s (suc q)) g) (walk form l sc n (j + (size t + sizes g)))
-      ∙ ap (λ (x : ℕ). before (later j (firstBad form (Γ ⹁ s 0) t)) (before (later (j + size t) (firstBads form Γ (λ q. s (suc q)) g)) (walk form l sc n x))) c
+      ∙ ap (λ (x : ℕ). before (later j (firstBad form (Γ ⹁ s 0) t)) (before (later (j + size t) (firstBads form Γ (λ q. s (suc q)) g)) (walk form l sc
+      n x))) c
       ∙ ap (before (later j (firstBad form (Γ ⹁ s 0) t))) (kids-walk sc Γ n a (j + size t) (λ q. s (suc q)) h)
       ∙ ap (λ (Δ : Ctx). before (later j (firstBad form Δ t)) (walk form l sc (n + a) (j + size t))) (sym b)
       ∙ unfold walk in ap (λ (x : ℕ). walk form l sc x j) (sym (add-suc n a))
@@ -167,12 +171,14 @@ module _ (form : ℕ → Form) (l : List Row) where
 
   -- a row that fails, the first of suc n trees
   module _ (sc : List ℕ) (i n : ℕ) (r : Row) (h : i < length l) (e : getD l i r ≡ r) where
-    pub walk-here : rowOk form (around form l sc i) (r .head) (r .type) (grove l (i + 1) (arity (r .head))) ≡ false → walk form l sc (suc n) i ≡ some i
+    pub walk-here : rowOk form (around form l sc i) (r .head) (r .type) (grove l (i + 1) (arity (r .head))) ≡ false → walk form l sc (suc n) i ≡ some
+        i
     unfolding walk firstBad stop later before
     walk-here q = rw (tree-row l i r r h e) (rw q (ap some (add-zero i)))
 
     -- a row that stands: its children are owed, below the binders that the array now has for them
-    module _ (w : Low sc i) (v : ℕ → ℕ) (fits : i + 1 + sizes (grove l (i + 1) (arity (r .head))) ≤ length sc) (inner : (q : ℕ) → Inner form (r .head) (r .type) (tys (grove l (i + 1) (arity (r .head)))) (getD sc i 0) i v q) where
+    module _ (w : Low sc i) (v : ℕ → ℕ) (fits : i + 1 + sizes (grove l (i + 1) (arity (r .head))) ≤ length sc) (inner : (q : ℕ) → Inner form (r .head)
+        (r .type) (tys (grove l (i + 1) (arity (r .head)))) (getD sc i 0) i v q) where
       abbrev pub handed : List ℕ
       handed = handOn l v 0 (arity (r .head)) (i + 1) sc
 
@@ -198,7 +204,8 @@ module _ (form : ℕ → Form) (l : List Row) where
           chain-agree form l sc handed (suc i) (getD sc p 0) (getD sc p 0) below-same (w .own) (omega (arith, w .all p))
           ∙ ap (λ (x : ℕ). chain form l handed x x) (sym (hand-after l v 0 (arity (r .head)) (i + 1) p sc b))
 
-      inner-means : (q : ℕ) → chain form l handed (v q) (v q) ≡ around form l sc i ⹁ scope form (r .head) (r .type) (tys (grove l (i + 1) (arity (r .head)))) q
+      inner-means : (q : ℕ) → chain form l handed (v q) (v q) ≡ around form l sc i ⹁ scope form (r .head) (r .type) (tys (grove l (i + 1) (arity (r
+          .head)))) q
       unfolding binds
       inner-means q =
           ⊎-elim
@@ -211,7 +218,8 @@ module _ (form : ℕ → Form) (l : List Row) where
           ∙ ap (λ (ps : List Param). around form l sc i ⹁ ps) (sym (x .1)))
           (inner q)
 
-      pub walk-on : rowOk form (around form l sc i) (r .head) (r .type) (grove l (i + 1) (arity (r .head))) ≡ true → walk form l sc (suc n) i ≡ walk form l handed (n + arity (r .head)) (i + 1)
+      pub walk-on : rowOk form (around form l sc i) (r .head) (r .type) (grove l (i + 1) (arity (r .head))) ≡ true → walk form l sc (suc n) i ≡ walk
+          form l handed (n + arity (r .head)) (i + 1)
       unfolding walk firstBad stop size
       walk-on q =
           let f = grove l (i + 1) (arity (r .head)) in
@@ -222,9 +230,11 @@ module _ (form : ℕ → Form) (l : List Row) where
           (rw q
           (ap (λ (x : ℕ). before (later i (later 1 (firstBads form Γ s f))) (walk form l sc n x)) c
           ∙ ap (λ (o : Option ℕ). before o (walk form l sc n (i + 1 + sizes f))) (later-add i 1 (firstBads form Γ s f))
-          ∙ ap (before (later (i + 1) (firstBads form Γ s f))) (walk-agree form l sc handed (i + 1 + sizes f) n (i + 1 + sizes f) behind-same (omega arith))
+          ∙ ap (before (later (i + 1) (firstBads form Γ s f))) (walk-agree form l sc handed (i + 1 + sizes f) n (i + 1 + sizes f) behind-same (omega
+          arith))
           ∙ kids-walk handed Γ n (arity (r .head)) (i + 1) s
-          (hands v Γ s 0 (arity (r .head)) (i + 1) sc handed refl fits (λ p. ap (λ (x : ℕ). chain form l handed (v x) (v x)) (zero-add p) ∙ inner-means p))))
+          (hands v Γ s 0 (arity (r .head)) (i + 1) sc handed refl fits (λ p. ap (λ (x : ℕ). chain form l handed (v x) (v x)) (zero-add p) ∙
+          inner-means p))))
 
   alone : (o : Option ℕ) → before (later 0 o) none ≡ o
   unfolding before later

@@ -17,14 +17,15 @@ use Rattle.meaning.specs.Terms.{Head, apply, tuple, fix, var, bind, lambda, ari
 use Rattle.meaning.specs.Typing.{Tys, ⟨⟩, _▹_, list, tys, scope, firstIs, belowOk, given, ruleOk, rowOk}
 use Rattle.meaning.proofs.Parse.{grove-more}
 use Rattle.terms.specs.Tables.{Closed, Ends}
-use Rattle.terms.proofs.ByKind.{arity-fixed, arity-other}
+use Rattle.terms.proofs.ByKind.{arity-few}
 use Rattle.terms.proofs.Scan.{size-here, size-some, grove-size}
 use Rattle.typing.specs.Forms.{says, forms, partTypes, isFunction, termRows, behind, three, FixedKind}
 use Rattle.typing.specs.Scope.{judged, innerOf, Inner}
 use Rattle.typing.proofs.ByRule.{and-true, and-comm, rule-apply, rule-tuple}
 use Rattle.typing.proofs.ByRow.{code-at, tree-in, numbers-comm, tys-more, tys-none, tys-three, rule-any, scope-none, behind-in}
 
-module _ (s : List ℕ) (tbase count : ℕ) (b : List ℕ) (base rows i k n ty w : ℕ) (h : i < rows) (e : k ∷ n ∷ ty ∷ w ∷ [] ≡ read termRow (drop (base + 8 * i) b)) where
+module _ (s : List ℕ) (tbase count : ℕ) (b : List ℕ) (base rows i k n ty w : ℕ) (h : i < rows) (e : k ∷ n ∷ ty ∷ w ∷ [] ≡ read termRow (drop (base + 8
+    * i) b)) where
   abbrev F : ℕ → Form
   F = forms s tbase count
 
@@ -55,7 +56,8 @@ module _ (s : List ℕ) (tbase count : ℕ) (b : List ℕ) (base rows i k n ty w
   unfolding rowOk
   judged-any Γ q =
       sym (judged-in Γ
-      ∙ ap (λ (x : Bool). x ∧ᵇ belowOk (headFrom k n w) (grove l (i + 1) (arity (headFrom k n w)))) (rule-any F Γ (headFrom k n w) ty (tys (grove l (i + 1) (arity (headFrom k n w)))) (code-at 5 k n w (omega arith) (omega arith) ∙ ne-eqb k 5 q))
+      ∙ ap (λ (x : Bool). x ∧ᵇ belowOk (headFrom k n w) (grove l (i + 1) (arity (headFrom k n w)))) (rule-any F Γ (headFrom k n w) ty (tys (grove l (i
+      + 1) (arity (headFrom k n w)))) (code-at 5 k n w (omega arith) (omega arith) ∙ ne-eqb k 5 q))
       ∙ sym (judged-in empty))
 
   -- the rule of a row of one kind
@@ -70,26 +72,31 @@ module _ (s : List ℕ) (tbase count : ℕ) (b : List ℕ) (base rows i k n ty w
       ∙ ap (λ (us : Tys 0). ruleOk F Γ (var w) ty us) (tys-none l (i + 1))
 
   pub judged-apply : (c at : ℕ) → k ≡ 8 → c ≡ tyOf (treeAt l (i + 1)) → at ≡ i + 1 + size (treeAt l (i + 1))
-    → judged F empty (treeAt l i) ≡ isFunction (formNo (R c)) ∧ᵇ (eqb (result (R c)) ty ∧ᵇ sameNumbers (list (tys (grove l at n))) (partTypes (R c)))
+      → judged F empty (treeAt l i) ≡ isFunction (formNo (R c)) ∧ᵇ (eqb (result (R c)) ty ∧ᵇ sameNumbers (list (tys (grove l at n))) (partTypes (R
+      c)))
   unfolding headFrom
   judged-apply c at q ec ea =
       judged-plain empty (λ z. omega arith)
       ∙ ap (rule-at empty) q
-      ∙ ap (λ (us : Tys (suc n)). ruleOk F empty (apply n) ty us) (tys-more l (i + 1) n ∙ ap (λ (x : ℕ). x ▹ tys (grove l (i + 1 + size (treeAt l (i + 1))) n)) (sym ec) ∙ ap (λ (x : ℕ). c ▹ tys (grove l x n)) (sym ea))
+      ∙ ap (λ (us : Tys (suc n)). ruleOk F empty (apply n) ty us) (tys-more l (i + 1) n ∙ ap (λ (x : ℕ). x ▹ tys (grove l (i + 1 + size (treeAt l (i +
+      1))) n)) (sym ec) ∙ ap (λ (x : ℕ). c ▹ tys (grove l x n)) (sym ea))
       ∙ rule-apply s tbase count empty ty n c (tys (grove l at n))
 
   pub arguments-in : Closed l rows → (at : ℕ) → k ≡ 8 → at ≡ i + 1 + size (treeAt l (i + 1)) → at + sizes (grove l at n) ≤ rows
   unfolding headFrom
   arguments-in c at q ea =
-      let z : sizes (grove l (i + 1) (arity (headFrom k n w))) ≡ sizes (grove l (i + 1) (suc n)) = ap (λ (x : ℕ). sizes (grove l (i + 1) (arity (headFrom x n w)))) q in
+      let z : sizes (grove l (i + 1) (arity (headFrom k n w))) ≡ sizes (grove l (i + 1) (suc n)) = ap (λ (x : ℕ). sizes (grove l (i + 1) (arity
+      (headFrom x n w)))) q in
       let y : sizes (grove l at n) ≡ sizes (grove l (i + 1 + size (treeAt l (i + 1))) n) = ap (λ (x : ℕ). sizes (grove l x n)) ea in
       omega (arith, children-in c, grove-size l (i + 1) n)
 
   -- where the arguments begin
-  pub arguments-at : (es : List ℕ) (at : ℕ) → Ends l rows es → Closed l rows → k ≡ 8 → at ≡ behind es rows (i + 1) → at ≡ i + 1 + size (treeAt l (i + 1))
+  pub arguments-at : (es : List ℕ) (at : ℕ) → Ends l rows es → Closed l rows → k ≡ 8 → at ≡ behind es rows (i + 1) → at ≡ i + 1 + size (treeAt l (i +
+      1))
   unfolding headFrom
   arguments-at es at f c q ea =
-      let z : sizes (grove l (i + 1) (arity (headFrom k n w))) ≡ sizes (grove l (i + 1) (suc n)) = ap (λ (x : ℕ). sizes (grove l (i + 1) (arity (headFrom x n w)))) q in
+      let z : sizes (grove l (i + 1) (arity (headFrom k n w))) ≡ sizes (grove l (i + 1) (suc n)) = ap (λ (x : ℕ). sizes (grove l (i + 1) (arity
+      (headFrom x n w)))) q in
       ea ∙ behind-in l es rows (i + 1) f (omega (arith, children-in c, grove-size l (i + 1) n, size-some (treeAt l (i + 1))))
 
   pub judged-tuple : k ≡ 16 → judged F empty (treeAt l i) ≡ eqb (formNo (R ty)) 5 ∧ᵇ sameNumbers (list (tys (grove l (i + 1) n))) (partTypes (R ty))
@@ -103,33 +110,37 @@ module _ (s : List ℕ) (tbase count : ℕ) (b : List ℕ) (base rows i k n ty w
   pub elements-in : Closed l rows → k ≡ 16 → i + 1 + sizes (grove l (i + 1) n) ≤ rows
   unfolding headFrom
   elements-in c q =
-      let z : sizes (grove l (i + 1) (arity (headFrom k n w))) ≡ sizes (grove l (i + 1) n) = ap (λ (x : ℕ). sizes (grove l (i + 1) (arity (headFrom x n w)))) q in
+      let z : sizes (grove l (i + 1) (arity (headFrom k n w))) ≡ sizes (grove l (i + 1) n) = ap (λ (x : ℕ). sizes (grove l (i + 1) (arity (headFrom x
+      n w)))) q in
       omega (arith, children-in c)
 
-  pub judged-fix : (c : ℕ) → k ≡ 11 → c ≡ tyOf (treeAt l (i + 1)) → judged F empty (treeAt l i) ≡ is 6 (treeAt l (i + 1)) ∧ᵇ ruleOk F empty fix ty (c ▹ ⟨⟩)
+  pub judged-fix : (c : ℕ) → k ≡ 11 → c ≡ tyOf (treeAt l (i + 1)) → judged F empty (treeAt l i) ≡ is 6 (treeAt l (i + 1)) ∧ᵇ ruleOk F empty fix ty (c
+      ▹ ⟨⟩)
   unfolding headFrom rowOk belowOk firstIs code
   judged-fix c q ec =
       let t = treeAt l (i + 1) in
       let j = i + 1 + size t in
       judged-in empty
       ∙ ap (λ (x : ℕ). rowOk F empty (headFrom x n w) ty (grove l (i + 1) (arity (headFrom x n w)))) q
-      ∙ ap (λ (us : Tys 1). ruleOk F empty fix ty us ∧ᵇ firstIs 6 (grove l (i + 1) 1)) (tys-more l (i + 1) 0 ∙ ap (λ (us : Tys 0). tyOf t ▹ us) (tys-none l j) ∙ ap (λ (x : ℕ). x ▹ ⟨⟩) (sym ec))
+      ∙ ap (λ (us : Tys 1). ruleOk F empty fix ty us ∧ᵇ firstIs 6 (grove l (i + 1) 1)) (tys-more l (i + 1) 0 ∙ ap (λ (us : Tys 0). tyOf t ▹ us)
+      (tys-none l j) ∙ ap (λ (x : ℕ). x ▹ ⟨⟩) (sym ec))
       ∙ ap (λ (f : Forest 1). ruleOk F empty fix ty (c ▹ ⟨⟩) ∧ᵇ firstIs 6 f) (grove-more l (i + 1) 0)
       ∙ and-comm (ruleOk F empty fix ty (c ▹ ⟨⟩)) (is 6 t)
 
   few : FixedKind k → arity (headFrom k n w) ≤ 3
-  few q =
-      elim (decLt k 20) [
-        | yes z ↦ omega (arith, arity-fixed k n w (q .no-apply) (q .no-tuple) z)
-        | no z ↦ omega (arith, arity-other k n w (omega arith))
-      ]
+  few q = arity-few k (q .no-apply) (q .no-tuple) n w
 
-  pub judged-other : (es : List ℕ) (p q : ℕ) (x y z : ℕ) → FixedKind k → Ends l rows es → Closed l rows → p ≡ behind es rows (i + 1) → q ≡ behind es rows p
-    → x ≡ tyOf (treeAt l (i + 1)) → y ≡ tyOf (treeAt l p) → z ≡ tyOf (treeAt l q)
-    → judged F empty (treeAt l i) ≡ ruleOk F empty (headFrom k n w) ty (three (arity (headFrom k n w)) x y z)
+  pub judged-other : (es : List ℕ) (p q : ℕ) (x y z : ℕ) → FixedKind k → Ends l rows es → Closed l rows → p ≡ behind es rows (i + 1) → q ≡ behind es
+      rows p
+      → x ≡ tyOf (treeAt l (i + 1)) → y ≡ tyOf (treeAt l p) → z ≡ tyOf (treeAt l q)
+      → judged F empty (treeAt l i) ≡ ruleOk F empty (headFrom k n w) ty (three (arity (headFrom k n w)) x y z)
   judged-other es p q x y z f ends c ep eq ex ey ez =
       judged-plain empty (f .no-fix)
-      ∙ ap (ruleOk F empty (headFrom k n w) ty) (tys-three l es rows (i + 1) p q ends ep eq (arity (headFrom k n w)) (few f) (children-in c) ∙ rw (ex, ey, ez) refl)
+      ∙ ap (ruleOk F empty (headFrom k n w) ty) (tys-three l es rows (i + 1) p q ends ep eq (arity (headFrom k n w)) (few f) (children-in c) ∙ rw (
+        ex,
+        ey,
+        ez,
+      ) refl)
 
 -- Binders --------------------------------------------------------------------------------------------------------
 
@@ -146,7 +157,8 @@ let-right F n w ty outer i zero (a ▹ b ▹ ⟨⟩) = inl (refl, refl)
 let-right F n w ty outer i (suc q) (a ▹ b ▹ ⟨⟩) = inr (rw (ne-eqb (suc q) 0 (omega arith)) (add-one i), refl)
 
 -- what is written for a child is what the walk asks
-pub inner-right : (F : ℕ → Form) (n w ty outer i k : ℕ) (q : ℕ) (ts : Tys (arity (headFrom k n w))) → Inner F (headFrom k n w) ty ts outer i (innerOf k outer (i + 1)) q
+pub inner-right : (F : ℕ → Form) (n w ty outer i k : ℕ) (q : ℕ) (ts : Tys (arity (headFrom k n w))) → Inner F (headFrom k n w) ty ts outer i (innerOf
+    k outer (i + 1)) q
 inner-right F n w ty outer i k =
     elim (ℕ-discrete k 6) [
       | yes e ↦ subst (Right F n w ty outer i) (sym e) (native-right F n w ty outer i)
@@ -154,7 +166,8 @@ inner-right F n w ty outer i k =
         | yes f ↦ subst (Right F n w ty outer i) (sym f) (let-right F n w ty outer i)
         | no f ↦ λ q ts. inl (
           rw (ne-eqb k 6 e, ne-eqb k 19 f) refl,
-          scope-none F (headFrom k n w) ty ts q (code-at 6 k n w (omega arith) (omega arith) ∙ ne-eqb k 6 e) (code-at 19 k n w (omega arith) (omega arith) ∙ ne-eqb k 19 f),
+          scope-none F (headFrom k n w) ty ts q (code-at 6 k n w (omega arith) (omega arith) ∙ ne-eqb k 6 e) (code-at 19 k n w (omega arith) (omega
+              arith) ∙ ne-eqb k 19 f),
         )
       ]
     ]

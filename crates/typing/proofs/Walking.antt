@@ -17,7 +17,8 @@ use Rattle.typing.specs.Scope.{around, walk, handOn, innerOf, judged, Lo
 use Rattle.typing.proofs.Faults.{walk-here, walk-on, handed-low}
 use Rattle.typing.proofs.Judging.{children-in, judged-in, inner-right}
 
-module _ (s : List ℕ) (tbase count : ℕ) (b : List ℕ) (base rows i k n ty w : ℕ) (h : i < rows) (e : k ∷ n ∷ ty ∷ w ∷ [] ≡ read termRow (drop (base + 8 * i) b)) (sc : List ℕ) where
+module _ (s : List ℕ) (tbase count : ℕ) (b : List ℕ) (base rows i k n ty w : ℕ) (h : i < rows) (e : k ∷ n ∷ ty ∷ w ∷ [] ≡ read termRow (drop (base + 8
+    * i) b)) (sc : List ℕ) where
   abbrev F : ℕ → Form
   F = forms s tbase count
 
@@ -40,7 +41,8 @@ module _ (s : List ℕ) (tbase count : ℕ) (b : List ℕ) (base rows i k n ty w
     abbrev next : List ℕ
     next = handOn l (innerOf k (getD sc i 0) (i + 1)) 0 (arity (headFrom k n w)) (i + 1) sc
 
-    pub goes-on : (owed : ℕ) → (owed ≡ 0 → ⊥) → judged F (around F l sc i) (treeAt l i) ≡ true → walk F l sc owed i ≡ walk F l next (owed - 1 + arity (headFrom k n w)) (i + 1)
+    pub goes-on : (owed : ℕ) → (owed ≡ 0 → ⊥) → judged F (around F l sc i) (treeAt l i) ≡ true → walk F l sc owed i ≡ walk F l next (owed - 1 + arity
+        (headFrom k n w)) (i + 1)
     unfolding rowOf
     goes-on zero z q = absurd (z refl)
     goes-on (suc m) z q =
@@ -63,11 +65,13 @@ module _ (s : List ℕ) (tbase count : ℕ) (b : List ℕ) (base rows i k n ty w
         (λ p. inner-right F n w ty (getD sc i 0) i k p (tys (grove l (i + 1) (arity (headFrom k n w))))))
 
 pub stops : (s : List ℕ) (tbase count : ℕ) (b : List ℕ) (base rows i : ℕ) → i < rows → (sc : List ℕ) (owed : ℕ) → (owed ≡ 0 → ⊥)
-  → judged (forms s tbase count) (around (forms s tbase count) (termRows b base rows) sc i) (treeAt (termRows b base rows) i) ≡ false → walk (forms s tbase count) (termRows b base rows) sc owed i ≡ some i
+    → judged (forms s tbase count) (around (forms s tbase count) (termRows b base rows) sc i) (treeAt (termRows b base rows) i) ≡ false → walk (forms
+    s tbase count) (termRows b base rows) sc owed i ≡ some i
 unfolding read
 stops s tbase count b base rows i h sc owed z q =
     let x = drop (base + 8 * i) b in
-    fails s tbase count b base rows i (number 1 x) (number 1 (drop 1 x)) (number 2 (drop 1 (drop 1 x))) (number 4 (drop 2 (drop 1 (drop 1 x)))) h refl sc owed z q
+    fails s tbase count b base rows i (number 1 x) (number 1 (drop 1 x)) (number 2 (drop 1 (drop 1 x))) (number 4 (drop 2 (drop 1 (drop 1 x)))) h refl
+    sc owed z q
 
 -- an array of zeros
 zeros-at : (n p : ℕ) → _≡_ {A = ℕ} (getD (replicate n 0) p 0) 0

@@ -21,7 +21,16 @@ ghost use Rattle.typing.specs.Scope.{walk, Low, Ready};
 
 // The first row that fails in the tree at row 0, below no binder. The array is filled from the root down with the innermost binder
 // around each row.
-fn judge(types: &[u8], tbase: usize, count: usize, bytes: &[u8], base: usize, rows: usize, ends: &[u16], scope: &mut [u16]) -> Found
+fn judge(
+    types: &[u8],
+    tbase: usize,
+    count: usize,
+    bytes: &[u8],
+    base: usize,
+    rows: usize,
+    ends: &[u16],
+    scope: &mut [u16],
+) -> Found
     requires { ⌜ Ready (now types) tbase count (now bytes) base rows (now ends) × (rows ≤ length (now scope)) × (rows ≤ 2048) × Low (now scope) 0 ⌝ }
     ensures { λ r. ⌜ found r ≡ walk (forms (now (types .entry)) tbase count) (termRows (now (bytes .entry)) base rows) (now (scope .entry)) 1 0 ⌝ }
 {
@@ -40,7 +49,14 @@ fn judge(types: &[u8], tbase: usize, count: usize, bytes: &[u8], base: usize, ro
 }
 
 // Refusals 9 and 15: the first row that fails typing.
-pub fn first_bad(types: &[u8], tbase: usize, count: usize, bytes: &[u8], base: usize, rows: usize) -> Found
+pub fn first_bad(
+    types: &[u8],
+    tbase: usize,
+    count: usize,
+    bytes: &[u8],
+    base: usize,
+    rows: usize,
+) -> Found
     requires { ⌜ (tbase + 36 * count ≤ length (now types)) × (base + 8 * rows ≤ length (now bytes)) × (rows ≤ 2048) × Closed (map rowOf (reads termRow rows (drop base (now bytes)))) rows ⌝ }
     ensures { λ r. ⌜ found r ≡ firstBad (formOf (reads typeRow count (drop tbase (now (types .entry))))) empty (treeOf (map rowOf (reads termRow rows (drop base (now (bytes .entry)))))) ⌝ }
 {

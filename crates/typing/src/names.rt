@@ -45,7 +45,16 @@ fn wide(x: u16) -> u32
 }
 
 // The type that the binder at row b gives to the name x in its body.
-fn bound_in(types: &[u8], tbase: usize, count: usize, bytes: &[u8], base: usize, rows: usize, b: usize, x: u32) -> Named
+fn bound_in(
+    types: &[u8],
+    tbase: usize,
+    count: usize,
+    bytes: &[u8],
+    base: usize,
+    rows: usize,
+    b: usize,
+    x: u32,
+) -> Named
     requires { ⌜ (tbase + 36 * count ≤ length (now types)) × (base + 8 * rows ≤ length (now bytes)) × (b < rows) ⌝ }
     ensures { λ r. ⌜ named r ≡ find (binds (forms (now (types .entry)) tbase count) (treeAt (termRows (now (bytes .entry)) base rows) b)) x ⌝ }
 {
@@ -71,7 +80,17 @@ fn row_no(x: u16) -> usize
 }
 
 // The type of the name x below the binders that begin at entry v of the array.
-pub fn lookup(types: &[u8], tbase: usize, count: usize, bytes: &[u8], base: usize, rows: usize, scope: &[u16], v: usize, x: u32) -> Named
+pub fn lookup(
+    types: &[u8],
+    tbase: usize,
+    count: usize,
+    bytes: &[u8],
+    base: usize,
+    rows: usize,
+    scope: &[u16],
+    v: usize,
+    x: u32,
+) -> Named
     requires { ⌜ (tbase + 36 * count ≤ length (now types)) × (base + 8 * rows ≤ length (now bytes)) × (rows ≤ length (now scope)) × (v ≤ rows) × Low (now scope) rows ⌝ }
     ensures { λ r. ⌜ named r ≡ chain (forms (now (types .entry)) tbase count) (termRows (now (bytes .entry)) base rows) (now (scope .entry)) v v x ⌝ }
 {

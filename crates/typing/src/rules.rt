@@ -57,10 +57,14 @@ fn same_params(types: &[u8], base: usize, count: usize, t: u16, c: u16) -> bool
     }
     let mut k: usize = 0;
     while k < n {
-        if forms::name_of(types, base, count, t, k) != forms::name_of(types, base, count, c, k + 1) {
+        if forms::name_of(types, base, count, t, k)
+            != forms::name_of(types, base, count, c, k + 1)
+        {
             return false;
         }
-        if forms::type_of(types, base, count, t, k) != forms::type_of(types, base, count, c, k + 1) {
+        if forms::type_of(types, base, count, t, k)
+            != forms::type_of(types, base, count, c, k + 1)
+        {
             return false;
         }
         k += 1;

@@ -21,13 +21,32 @@ fn wide(x: u16) -> usize
 }
 
 // A variable has its binder's type.
-fn variable_ok(types: &[u8], tbase: usize, count: usize, bytes: &[u8], base: usize, rows: usize, scope: &[u16], i: usize) -> bool
+fn variable_ok(
+    types: &[u8],
+    tbase: usize,
+    count: usize,
+    bytes: &[u8],
+    base: usize,
+    rows: usize,
+    scope: &[u16],
+    i: usize,
+) -> bool
     requires { ⌜ (tbase + 36 * count ≤ length (now types)) × (base + 8 * rows ≤ length (now bytes)) × (rows ≤ length (now scope)) × Low (now scope) rows × (i < rows) × (kindNo (read termRow (drop (base + 8 * i) (now bytes))) ≡ 5) ⌝ }
     ensures { λ r. ⌜ r ≡ judged (forms (now (types .entry)) tbase count) (around (forms (now (types .entry)) tbase count) (termRows (now (bytes .entry)) base rows) (now (scope .entry)) i) (treeAt (termRows (now (bytes .entry)) base rows) i) ⌝ }
 {
     let r = layout::row_at(bytes, base, i);
     let ty = r.ty;
-    let f = names::lookup(types, tbase, count, bytes, base, rows, scope, wide(scope[i]), r.word);
+    let f = names::lookup(
+        types,
+        tbase,
+        count,
+        bytes,
+        base,
+        rows,
+        scope,
+        wide(scope[i]),
+        r.word,
+    );
     match f {
         Named::Has(t) => t == ty,
         Named::Nothing => false,
@@ -35,7 +54,16 @@ fn variable_ok(types: &[u8], tbase: usize, count: usize, bytes: &[u8], base: usi
 }
 
 // A function type with n arguments, of the types that the others state.
-fn apply_ok(types: &[u8], tbase: usize, count: usize, bytes: &[u8], base: usize, rows: usize, ends: &[u16], i: usize) -> bool
+fn apply_ok(
+    types: &[u8],
+    tbase: usize,
+    count: usize,
+    bytes: &[u8],
+    base: usize,
+    rows: usize,
+    ends: &[u16],
+    i: usize,
+) -> bool
     requires { ⌜ Ready (now types) tbase count (now bytes) base rows (now ends) × (i < rows) × (kindNo (read termRow (drop (base + 8 * i) (now bytes))) ≡ 8) ⌝ }
     ensures { λ r. ⌜ r ≡ judged (forms (now (types .entry)) tbase count) empty (treeAt (termRows (now (bytes .entry)) base rows) i) ⌝ }
 {
@@ -48,23 +76,57 @@ fn apply_ok(types: &[u8], tbase: usize, count: usize, bytes: &[u8], base: usize,
         return false;
     }
     let at = stated::next(ends, rows, i + 1);
-    stated::same_types(types, tbase, count, c, bytes, base, rows, ends, at, r.n as usize)
+    stated::same_types(
+        types,
+        tbase,
+        count,
+        c,
+        bytes,
+        base,
+        rows,
+        ends,
+        at,
+        r.n as usize,
+    )
 }
 
 // The child is a native function, and its type is as fix asks.
-fn fix_ok(types: &[u8], tbase: usize, count: usize, bytes: &[u8], base: usize, rows: usize, i: usize) -> bool
+fn fix_ok(
+    types: &[u8],
+    tbase: usize,
+    count: usize,
+    bytes: &[u8],
+    base: usize,
+    rows: usize,
+    i: usize,
+) -> bool
     requires { ⌜ (tbase + 36 * count ≤ length (now types)) × (base + 8 * rows ≤ length (now bytes)) × (i < rows) × (kindNo (read termRow (drop (base + 8 * i) (now bytes))) ≡ 11) ⌝ }
     ensures { λ r. ⌜ r ≡ judged (forms (now (types .entry)) tbase count) empty (treeAt (termRows (now (bytes .entry)) base rows) i) ⌝ }
 {
     let r = layout::row_at(bytes, base, i);
     if stated::is_native(bytes, base, rows, i + 1) {
-        return rules::fix_ok(types, tbase, count, r.ty, stated::type_at(bytes, base, rows, i + 1));
+        return rules::fix_ok(
+            types,
+            tbase,
+            count,
+            r.ty,
+            stated::type_at(bytes, base, rows, i + 1),
+        );
     }
     false
 }
 
 // A tuple by element.
-fn tuple_ok(types: &[u8], tbase: usize, count: usize, bytes: &[u8], base: usize, rows: usize, ends: &[u16], i: usize) -> bool
+fn tuple_ok(
+    types: &[u8],
+    tbase: usize,
+    count: usize,
+    bytes: &[u8],
+    base: usize,
+    rows: usize,
+    ends: &[u16],
+    i: usize,
+) -> bool
     requires { ⌜ Ready (now types) tbase count (now bytes) base rows (now ends) × (i < rows) × (kindNo (read termRow (drop (base + 8 * i) (now bytes))) ≡ 16) ⌝ }
     ensures { λ r. ⌜ r ≡ judged (forms (now (types .entry)) tbase count) empty (treeAt (termRows (now (bytes .entry)) base rows) i) ⌝ }
 {
@@ -72,11 +134,31 @@ fn tuple_ok(types: &[u8], tbase: usize, count: usize, bytes: &[u8], base: usize,
     if forms::form_of(types, tbase, count, r.ty) != 5 {
         return false;
     }
-    stated::same_types(types, tbase, count, r.ty, bytes, base, rows, ends, i + 1, r.n as usize)
+    stated::same_types(
+        types,
+        tbase,
+        count,
+        r.ty,
+        bytes,
+        base,
+        rows,
+        ends,
+        i + 1,
+        r.n as usize,
+    )
 }
 
 // A row of the other kinds, by what its first three children state.
-fn other_ok(types: &[u8], tbase: usize, count: usize, bytes: &[u8], base: usize, rows: usize, ends: &[u16], i: usize) -> bool
+fn other_ok(
+    types: &[u8],
+    tbase: usize,
+    count: usize,
+    bytes: &[u8],
+    base: usize,
+    rows: usize,
+    ends: &[u16],
+    i: usize,
+) -> bool
     requires { ⌜ Ready (now types) tbase count (now bytes) base rows (now ends) × (i < rows) × FixedKind (kindNo (read termRow (drop (base + 8 * i) (now bytes)))) ⌝ }
     ensures { λ r. ⌜ r ≡ judged (forms (now (types .entry)) tbase count) empty (treeAt (termRows (now (bytes .entry)) base rows) i) ⌝ }
 {
@@ -91,7 +173,17 @@ fn other_ok(types: &[u8], tbase: usize, count: usize, bytes: &[u8], base: usize,
 }
 
 // Whether row i keeps its rule.
-pub fn row_ok(types: &[u8], tbase: usize, count: usize, bytes: &[u8], base: usize, rows: usize, ends: &[u16], scope: &[u16], i: usize) -> bool
+pub fn row_ok(
+    types: &[u8],
+    tbase: usize,
+    count: usize,
+    bytes: &[u8],
+    base: usize,
+    rows: usize,
+    ends: &[u16],
+    scope: &[u16],
+    i: usize,
+) -> bool
     requires { ⌜ Ready (now types) tbase count (now bytes) base rows (now ends) × (rows ≤ length (now scope)) × Low (now scope) rows × (i < rows) ⌝ }
     ensures { λ r. ⌜ r ≡ judged (forms (now (types .entry)) tbase count) (around (forms (now (types .entry)) tbase count) (termRows (now (bytes .entry)) base rows) (now (scope .entry)) i) (treeAt (termRows (now (bytes .entry)) base rows) i) ⌝ }
 {

@@ -54,7 +54,18 @@ fn wide(x: u16) -> usize
 }
 
 // Whether the n trees from row `at` on state the types of the parts of t.
-pub fn same_types(types: &[u8], tbase: usize, count: usize, t: u16, bytes: &[u8], base: usize, rows: usize, ends: &[u16], at: usize, n: usize) -> bool
+pub fn same_types(
+    types: &[u8],
+    tbase: usize,
+    count: usize,
+    t: u16,
+    bytes: &[u8],
+    base: usize,
+    rows: usize,
+    ends: &[u16],
+    at: usize,
+    n: usize,
+) -> bool
     requires { ⌜ (tbase + 36 * count ≤ length (now types)) × (base + 8 * rows ≤ length (now bytes)) × (rows ≤ length (now ends)) × Ends (termRows (now bytes) base rows) rows (now ends) × (at + sizes (grove (termRows (now bytes) base rows) at n) ≤ rows) ⌝ }
     ensures { λ r. ⌜ r ≡ sameNumbers (list (tys (grove (termRows (now (bytes .entry)) base rows) at n))) (partTypes (says (now (types .entry)) tbase count t)) ⌝ }
 {

@@ -1,64 +1,77 @@
-use mathlib.Core.Path.{sym}
-use native.Mathlib.Omega.{arith}
-use Rattle.meaning.specs.Terms.{rowOf}
-use Rattle.terms.proofs.ByKind.{arity-apply, arity-tuple, arity-fixed, arity-other}
+-- One line a kind.
+use Prim.Native.Nat.{ℕ, suc, _+_}
+use mathlib.Core.Path.{_≡_, sym, ap, _∙_}
+use Rattle.meaning.specs.Terms.{arity, headFrom, rowOf}
+use Rattle.terms.proofs.ByKind.{arity-leaf}
 use borrow.Author.Needs.{needs}
+use native.Mathlib.Omega.{arith}
 use Rattle.terms.proofs.children.Statement.{statement}
 use Rattle.terms.proofs.children.Tie as tie
-use Rattle.terms.proofs.children.Reads as reads
-use Rattle.terms.proofs.children.Lts as lts
-
--- src/lib.rt:38:16
-cast-result : tie.Need-cast-result
-cast-result c = search needs
-
--- src/lib.rt:38:16
-add-result : tie.Need-add-result
-add-result c = search needs
-
--- src/lib.rt:38:9
-returns : tie.Need-returns
-returns c = unfold rowOf in (sym (arity-apply _ _ (c .before .before .args .r .word) (c .before .if1 .taken)), omega arith)
-
--- src/lib.rt:41:16
-cast-result-2 : tie.Need-cast-result-2
-cast-result-2 c = search needs
-
--- src/lib.rt:41:9
-returns-2 : tie.Need-returns-2
-returns-2 c = unfold rowOf in (sym (arity-tuple _ _ (c .before .before .before .args .r .word) (c .before .if2 .taken)), omega arith)
-
--- src/lib.rt:43:14
-cast-at : tie.Need-cast-at
-cast-at c = search needs
-
--- src/lib.rt:45:16
-mul-result : tie.Need-mul-result
-mul-result c = search needs
-
--- src/lib.rt:45:16
-array-read-result : tie.Need-array-read-result
-array-read-result c = search needs
-
--- src/lib.rt:45:9
-returns-3 : tie.Need-returns-3
-returns-3 c = unfold rowOf in (let g = arity-fixed _ (c .before .before .before .args .r .n) (c .before .before .before .args .r .word) (c .before .before .if1 .left) (c .before .if2 .left) (c .if3 .taken) in (sym (g .0), omega (arith, g .1)))
-
--- src/lib.rt:33:1
-returns-4 : tie.Need-returns-4
-returns-4 c = unfold rowOf in (sym (arity-other _ (c .before .before .before .args .r .n) (c .before .before .before .args .r .word) (c .if3 .left)), omega arith)
 
 pub children-spec : {M : Type 1} → statement M
 children-spec =
     tie.close
     (tie.spec
-    cast-result
-    add-result
-    returns
-    cast-result-2
-    returns-2
-    cast-at
-    mul-result
-    array-read-result
-    returns-3
-    returns-4)
+    (λ c. search needs)
+    (λ c. search needs)
+    -- kind 6
+    (λ c. unfold rowOf headFrom in (
+    let args = c .before .before .args in
+    let the-match = c .match in
+    (sym (ap (λ (x : ℕ). arity (headFrom x (args .r .n) (args .r .word))) (the-match .keys1)), omega arith)))
+    -- kind 8
+    (λ c. unfold rowOf headFrom in (
+    let args = c .before .before .args in
+    let the-match = c .match in
+    let e : args .r .n + 1 ≡ suc (args .r .n) = omega arith in
+    (e ∙ sym (ap (λ (x : ℕ). arity (headFrom x (args .r .n) (args .r .word))) (the-match .keys2)), omega arith)))
+    -- kind 10
+    (λ c. unfold rowOf headFrom in (
+    let args = c .before .before .args in
+    let the-match = c .match in
+    (sym (ap (λ (x : ℕ). arity (headFrom x (args .r .n) (args .r .word))) (the-match .keys3)), omega arith)))
+    -- kind 11
+    (λ c. unfold rowOf headFrom in (
+    let args = c .before .before .args in
+    let the-match = c .match in
+    (sym (ap (λ (x : ℕ). arity (headFrom x (args .r .n) (args .r .word))) (the-match .keys4)), omega arith)))
+    -- kind 13
+    (λ c. unfold rowOf headFrom in (
+    let args = c .before .before .args in
+    let the-match = c .match in
+    (sym (ap (λ (x : ℕ). arity (headFrom x (args .r .n) (args .r .word))) (the-match .keys5)), omega arith)))
+    -- kind 14
+    (λ c. unfold rowOf headFrom in (
+    let args = c .before .before .args in
+    let the-match = c .match in
+    (sym (ap (λ (x : ℕ). arity (headFrom x (args .r .n) (args .r .word))) (the-match .keys6)), omega arith)))
+    -- kind 15
+    (λ c. unfold rowOf headFrom in (
+    let args = c .before .before .args in
+    let the-match = c .match in
+    (sym (ap (λ (x : ℕ). arity (headFrom x (args .r .n) (args .r .word))) (the-match .keys7)), omega arith)))
+    -- kind 16
+    (λ c. unfold rowOf headFrom in (
+    let args = c .before .before .args in
+    let the-match = c .match in
+    (sym (ap (λ (x : ℕ). arity (headFrom x (args .r .n) (args .r .word))) (the-match .keys8)), omega arith)))
+    -- kind 17
+    (λ c. unfold rowOf headFrom in (
+    let args = c .before .before .args in
+    let the-match = c .match in
+    (sym (ap (λ (x : ℕ). arity (headFrom x (args .r .n) (args .r .word))) (the-match .keys9)), omega arith)))
+    -- kind 18
+    (λ c. unfold rowOf headFrom in (
+    let args = c .before .before .args in
+    let the-match = c .match in
+    (sym (ap (λ (x : ℕ). arity (headFrom x (args .r .n) (args .r .word))) (the-match .keys10)), omega arith)))
+    -- kind 19
+    (λ c. unfold rowOf headFrom in (
+    let args = c .before .before .args in
+    let the-match = c .match in
+    (sym (ap (λ (x : ℕ). arity (headFrom x (args .r .n) (args .r .word))) (the-match .keys11)), omega arith)))
+    -- the others
+    (λ c. unfold rowOf in (
+    let args = c .before .before .args in
+    let the-match = c .match in
+    (sym (arity-leaf (args .r .kind) (the-match .rest .0 .0 .0 .0 .0 .0 .0 .0 .0 .0 .1) (the-match .rest .0 .0 .0 .0 .0 .0 .0 .0 .0 .1) (the-match .rest .0 .0 .0 .0 .0 .0 .0 .0 .1) (the-match .rest .0 .0 .0 .0 .0 .0 .0 .1) (the-match .rest .0 .0 .0 .0 .0 .0 .1) (the-match .rest .0 .0 .0 .0 .0 .1) (the-match .rest .0 .0 .0 .0 .1) (the-match .rest .0 .0 .0 .1) (the-match .rest .0 .0 .1) (the-match .rest .0 .1) (the-match .rest .1) (args .r .n) (args .r .word)), omega arith))))

@@ -1,31 +1,18 @@
-use Prim.Native.Nat.{ℕ, _+_, _*_, _-_, _/_, _%_, _<_, _≤_}
-use mathlib.Core.Path.{_≡_, refl, sym, ap, _∙_}
-use mathlib.Core.Bool.{Bool, true, false}
-use mathlib.Core.List.{List}
-use mathlib.Core.Option.{Option, none, some}
-use lib.Dec.{eqb}
-use lib.ListN.{length, getD, drop, length-drop}
+-- Forms 6 and 7.
+use mathlib.Core.Path.{refl}
 use borrow.Author.Tests.{eq-eqb, ne-eqb}
-use Rattle.meaning.specs.Bytes.{_∧ᵇ_}
-use Rattle.meaning.specs.Types.{formNo, result, parts, names, types, empty, place}
-use Rattle.meaning.specs.Typing.{whenList, given, sameParams, maskedOk, zippedOk, ruleOk}
-use Rattle.typing.specs.Forms.{says, forms, partTypes, isFunction}
-use Rattle.typing.proofs.ByRule.{is-eq, not-eq, list-says, rule-lambda, rule-if, rule-fix, rule-cons, rule-isnil, rule-zip, rule-project, rule-lproject}
-use Rattle.typing.proofs.ByPart.{types-length, place-none, place-at, place-beyond, params-same, params-lengths, params-end, zipped-more, zipped-lengths, zipped-end}
-use native.Mathlib.Omega.{arith}
-use borrow.Author.Needs.{needs}
 use Rattle.typing.proofs.rules.is_function.Statement.{statement}
 use Rattle.typing.proofs.rules.is_function.Tie as tie
-use Rattle.typing.proofs.rules.is_function.Reads as reads
-use Rattle.typing.proofs.rules.is_function.Lts as lts
-
--- src/rules.rt:17:9
-returns : tie.Need-returns
-returns c = rw (eq-eqb _ 6 (c .if1 .taken)) refl
-
--- src/rules.rt:13:1
-returns-2 : tie.Need-returns-2
-returns-2 c = rw (ne-eqb _ 6 (c .if1 .left)) refl
 
 pub is-function-spec : {M : Type 1} → statement M
-is-function-spec = tie.close (tie.spec returns returns-2)
+is-function-spec =
+    tie.close
+    (tie.spec
+    -- returns
+    (λ c.
+    let if1 = c .if1 in
+    rw (eq-eqb _ 6 (if1 .taken)) refl)
+    -- returns-2
+    (λ c.
+    let if1 = c .if1 in
+    rw (ne-eqb _ 6 (if1 .left)) refl))

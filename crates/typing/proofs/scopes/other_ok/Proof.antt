@@ -1,80 +1,59 @@
-use Prim.Native.Nat.{ℕ, suc, _+_, _*_, _-_, _<_, _≤_}
-use mathlib.Core.Path.{_≡_, refl, sym, ap, _∙_, subst}
-use mathlib.Core.Bool.{Bool, true, false}
+-- The rule over what the first three children state.
+use Prim.Native.Nat.{ℕ}
+use mathlib.Core.Path.{sym, ap, _∙_, subst}
 use mathlib.Core.List.{List}
-use mathlib.Core.Option.{Option, none, some}
-use lib.Dec.{eqb}
-use lib.ListN.{length, getD, set, drop, length-set}
-use borrow.Author.Tests.{eq-eqb, ne-eqb, not-true, not-false}
-use Rattle.meaning.specs.Bytes.{_∧ᵇ_}
-use Rattle.meaning.specs.Types.{formNo, result, Ctx, empty}
-use Rattle.meaning.specs.Terms.{kindNo, arity, rowOf, headFrom, size, sizes, treeAt, grove}
-use Rattle.meaning.specs.Typing.{given}
-use Rattle.terms.proofs.Scan.{size-some, grove-size}
-use Rattle.typing.specs.Forms.{says, forms, termRows, isFunction, behind, FixedKind}
-use Rattle.typing.specs.Scope.{chain, around, handOn, innerOf}
-use Rattle.typing.specs.Named.{named}
-use Rattle.typing.proofs.ByRule.{is-eq, not-eq}
-use Rattle.typing.proofs.ByRow.{behind-in}
-use Rattle.typing.proofs.Faults.{hand-more, hand-none}
-use Rattle.typing.proofs.Judging.{children-in, judged-any, judged-variable, judged-apply, arguments-in, arguments-at, judged-tuple, elements-in, judged-fix, judged-other}
-use native.Mathlib.Omega.{arith}
+use Rattle.meaning.specs.Types.{result}
+use Rattle.meaning.specs.Terms.{kindNo, rowOf}
+use Rattle.typing.specs.Forms.{FixedKind}
+use Rattle.typing.proofs.Judging.{judged-other}
 use borrow.Author.Needs.{needs}
 use Rattle.typing.proofs.scopes.other_ok.Statement.{statement}
 use Rattle.typing.proofs.scopes.other_ok.Tie as tie
-use Rattle.typing.proofs.scopes.other_ok.Reads as reads
-use Rattle.typing.proofs.scopes.other_ok.Lts as lts
-use Rattle.layout.proofs.row_at.Reads as row-at-reads
-use Rattle.typing.proofs.stated.fixed_ok.Reads as fixed-ok-reads
-use Rattle.typing.proofs.stated.next.Reads as next-reads
-use Rattle.typing.proofs.stated.type_at.Reads as type-at-reads
-
--- src/scopes.rt:83:9
-row-at-requires : tie.Need-row-at-requires
-row-at-requires c κs = search needs
-
--- src/scopes.rt:84:13
-add-p : tie.Need-add-p
-add-p c = search needs
-
--- src/scopes.rt:85:9
-next-requires : tie.Need-next-requires
-next-requires c κs = search needs
-
--- src/scopes.rt:86:9
-next-requires-2 : tie.Need-next-requires-2
-next-requires-2 c κs = search needs
-
--- src/scopes.rt:87:9
-type-at-requires : tie.Need-type-at-requires
-type-at-requires c κs = search needs
-
--- src/scopes.rt:88:9
-type-at-requires-2 : tie.Need-type-at-requires-2
-type-at-requires-2 c κs = search needs
-
--- src/scopes.rt:89:9
-type-at-requires-3 : tie.Need-type-at-requires-3
-type-at-requires-3 c κs = search needs
-
--- src/scopes.rt:90:5
-fixed-ok-requires : tie.Need-fixed-ok-requires
-fixed-ok-requires c κs = (c .before .before .before .before .before .before .before .before .before .pre .0 .types, (subst (λ (x : ℕ). FixedKind x) (sym (ap (λ (r : List ℕ). kindNo r) (c .before .before .before .before .before .row-at .ensures))) (c .before .before .before .before .before .before .before .before .before .pre .2)))
-
--- src/scopes.rt:79:1
-returns : tie.Need-returns
-returns c = unfold rowOf in c .fixed-ok .ensures ∙ sym (judged-other (c .before .before .before .before .before .before .before .before .before .before .args .types .now) (c .before .before .before .before .before .before .before .before .before .before .args .tbase) (c .before .before .before .before .before .before .before .before .before .before .args .count) (c .before .before .before .before .before .before .before .before .before .before .args .bytes .now) (c .before .before .before .before .before .before .before .before .before .before .args .base) (c .before .before .before .before .before .before .before .before .before .before .args .rows) (c .before .before .before .before .before .before .before .before .before .before .args .i) _ _ _ _ (c .before .before .before .before .before .before .before .before .before .before .pre .1) (c .before .before .before .before .before .before .row-at .ensures) (c .before .before .before .before .before .before .before .before .before .before .args .ends .now) (c .before .before .before .before .before .next .result) (c .before .before .before .before .next2 .result) (c .before .before .before .type-at .result) (c .before .before .type-at2 .result) (c .before .type-at3 .result) (subst (λ (x : ℕ). FixedKind x) (sym (ap (λ (r : List ℕ). kindNo r) (c .before .before .before .before .before .before .row-at .ensures))) (c .before .before .before .before .before .before .before .before .before .before .pre .2)) (c .before .before .before .before .before .before .before .before .before .before .pre .0 .ends) (c .before .before .before .before .before .before .before .before .before .before .pre .0 .closed) (c .before .before .before .before .before .next .ensures) (c .before .before .before .before .next2 .ensures) (c .before .before .before .type-at .ensures) (c .before .before .type-at2 .ensures) (c .before .type-at3 .ensures))
 
 pub other-ok-spec : {M : Type 1} → statement M
 other-ok-spec =
     tie.close
     (tie.spec
-    row-at-requires
-    add-p
-    next-requires
-    next-requires-2
-    type-at-requires
-    type-at-requires-2
-    type-at-requires-3
-    fixed-ok-requires
-    returns)
+    (λ c κs. search needs)
+    (λ c. search needs)
+    -- next-requires
+    (λ c κs.
+    let pre = c .before .before .before .before .pre in
+    (pre .0 .room))
+    -- next-requires-2
+    (λ c κs.
+    let pre = c .before .before .before .before .before .pre in
+    (pre .0 .room))
+    -- type-at-requires
+    (λ c κs.
+    let pre = c .before .before .before .before .before .before .pre in
+    (pre .0 .bytes))
+    -- type-at-requires-2
+    (λ c κs.
+    let pre = c .before .before .before .before .before .before .before .pre in
+    (pre .0 .bytes))
+    -- type-at-requires-3
+    (λ c κs.
+    let pre = c .before .before .before .before .before .before .before .before .pre in
+    (pre .0 .bytes))
+    -- fixed-ok-requires
+    (λ c κs.
+    let pre = c .before .before .before .before .before .before .before .before .before .pre in
+    let row-at = c .before .before .before .before .before .row-at in
+    let fixed = subst (λ (x : ℕ). FixedKind x) (sym (ap (λ (r : List ℕ). kindNo r) (row-at .ensures))) (pre .2) in
+    (pre .0 .types, fixed))
+    -- returns
+    (λ c. unfold rowOf in (
+    let fixed-ok = c .fixed-ok in
+    let args = c .before .before .before .before .before .before .before .before .before .before .args in
+    let pre = c .before .before .before .before .before .before .before .before .before .before .pre in
+    let row-at = c .before .before .before .before .before .before .row-at in
+    let next = c .before .before .before .before .before .next in
+    let next2 = c .before .before .before .before .next2 in
+    let type-at = c .before .before .before .type-at in
+    let type-at2 = c .before .before .type-at2 in
+    let type-at3 = c .before .type-at3 in
+    let fixed = subst (λ (x : ℕ). FixedKind x) (sym (ap (λ (r : List ℕ). kindNo r) (row-at .ensures))) (pre .2) in
+    fixed-ok .ensures ∙ sym (judged-other (args .types .now) (args .tbase) (args .count) (args .bytes .now) (args .base) (args .rows) (args .i) _ _ _
+    _ (pre .1) (row-at .ensures) (args .ends .now) (next .result) (next2 .result) (type-at .result) (type-at2 .result) (type-at3 .result) fixed
+    (pre .0 .ends) (pre .0 .closed) (next .ensures) (next2 .ensures) (type-at .ensures) (type-at2 .ensures) (type-at3 .ensures)))))
