@@ -1,15 +1,14 @@
 -- The bytes of the fresh record of an accepted file. Assumes nothing.
-use Prim.Native.Nat.{ℕ, zero, suc, _+_, _*_, _-_, _≤_, _<_}
+use Prim.Native.Nat.{ℕ, zero, suc, _+_, _*_, _-_, _≤_}
 use mathlib.Core.Path.{_≡_, refl, ap, sym, _∙_}
 use mathlib.Core.List.{List, [], _∷_, _++_, map, append-assoc, append-nil}
 use native.Mathlib.Omega.{arith}
-use lib.ListN.{length, getD, take, drop, replicate, length-append, length-drop, length-replicate, replicate-append-replicate, drop-of-length-le}
-use lib.Seq.{take-at, drop-at, drop-append-add, length-take-le}
-use Rattle.meaning.specs.Bytes.{number, width, read, write, reads, writes, padded, fileHead, typeRow, termRow, recordHead, entryRow, Limits, rowsAt, callsAt, recordBytes}
-use Rattle.meaning.specs.Terms.{Tree, tyOf, flat, size, typeNo, raw, rowOf, trees, top, treeOf}
-use Rattle.meaning.specs.Records.{recordMark, rawEntry, headNumbers, recordOf}
+use lib.ListN.{length, getD, take, drop, replicate, length-append, length-drop, replicate-append-replicate, drop-of-length-le}
+use lib.Seq.{take-at, drop-append-add, length-take-le}
+use Rattle.meaning.specs.Bytes.{number, width, read, write, reads, writes, padded, typeRow, termRow, recordHead, Limits, rowsAt, callsAt, recordBytes}
+use Rattle.meaning.specs.Terms.{tyOf, flat, size, typeNo, raw, rowOf, trees, top, treeOf}
+use Rattle.meaning.specs.Records.{recordMark, headNumbers, recordOf}
 use Rattle.meaning.specs.Entries.{fileTypeCount, fileRowCount, fileTypes, fileRows, fileTree, loadVerdict, loadedState}
-use Rattle.meaning.specs.declared.Verdict.{Verdict}
 use Rattle.meaning.specs.declared.Verdict.the-variants.{Accepted}
 use Rattle.meaning.proofs.Layouts.{AllBytes, bytes-drop, padded-length, length-write, writes-reads, length-reads, reads-wide}
 use Rattle.meaning.proofs.Shapes.{shape-whole}

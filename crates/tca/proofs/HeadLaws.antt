@@ -1,12 +1,12 @@
 -- The numbers of a file's header by their places, and its tests. Assumes nothing.
 use Prim.Native.Nat.{ℕ, _≤_, _<_}
-use mathlib.Core.Path.{_≡_, refl, ap, sym, _∙_}
-use mathlib.Core.Bool.{Bool, true, false}
+use mathlib.Core.Path.{_≡_, refl, ap, _∙_}
+use mathlib.Core.Bool.{true, false}
 use mathlib.Core.List.{List, [], _∷_}
 use native.Mathlib.Omega.{arith}
 use borrow.Author.Tests.{eq-eqb, ne-eqb, le-leb, lt-leb}
-use lib.Dec.{eqb, leb}
-use lib.ListN.{getD, take, drop}
+use lib.Dec.{eqb}
+use lib.ListN.{getD, drop}
 use Rattle.meaning.specs.Bytes.{_∧ᵇ_, within, number, read, fileHead, Limits}
 use Rattle.meaning.specs.Types.{sameNumbers}
 use Rattle.meaning.specs.Entries.{fileNo, fileTypeCount, fileRowCount}

@@ -1,15 +1,14 @@
 -- Load's verdict, test by test in document 01's order. Assumes nothing.
-use Prim.Native.Nat.{ℕ, zero, suc, _+_, _*_, _≤_, _<_}
+use Prim.Native.Nat.{ℕ, suc, _+_, _*_, _≤_, _<_}
 use mathlib.Core.Path.{_≡_, refl, ap, sym, _∙_}
-use mathlib.Core.Bool.{Bool, true, false, not, cond}
+use mathlib.Core.Bool.{Bool, true, false}
 use mathlib.Core.List.{List, map}
 use mathlib.Core.Option.{Option, none, some}
 use native.Mathlib.Omega.{arith}
 use native.Mathlib.Numerals.{add-one}
-use native.Mathlib.Nat.{add-assoc, zero-add, add-zero}
-use borrow.Author.Tests.{eq-eqb, ne-eqb, le-leb, lt-leb, eqb-true, leb-true}
-use lib.Dec.{eqb, leb}
-use lib.ListN.{length, getD, take, drop, drop-of-length-le}
+use native.Mathlib.Nat.{zero-add, add-zero}
+use borrow.Author.Tests.{eq-eqb, ne-eqb, le-leb, lt-leb}
+use lib.ListN.{length, getD, drop, drop-of-length-le}
 use lib.Seq.{drop-cons}
 use Rattle.meaning.specs.Bytes.{width, reads, typeRow, termRow, Limits, arm, recordBytes}
 use Rattle.meaning.specs.Terms.{kindNo, rowOf, shape, treeOf}
@@ -18,7 +17,6 @@ use Rattle.meaning.specs.Typing.{later, firstBad}
 use Rattle.meaning.specs.Records.{firstNot, recordOf}
 use Rattle.meaning.specs.Entries.{require, refuse, refuseShape, fileNo, fileTypeCount, fileRowCount, fileTypes, fileRows, fileTree, noFuture, programVerdict, loadVerdict, leaves, loadedState, load}
 use Rattle.meaning.specs.declared.Fault.{Fault}
-use Rattle.meaning.specs.declared.Shape.{Shape}
 use Rattle.meaning.specs.declared.Shape.the-variants.{Whole, Bad}
 use Rattle.meaning.specs.declared.Refusal.{Refusal}
 use Rattle.meaning.specs.declared.Refusal.the-variants.{Length, Size, Mark, Version, Count, TypeRow, Row, Future, Typing}

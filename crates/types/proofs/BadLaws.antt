@@ -1,21 +1,21 @@
 -- The first bad row: each test of a row, and a turn of the loop over the table. Assumes nothing.
 use Prim.Native.Nat.{ℕ, zero, suc, _+_, _*_, _<_, _≤_}
 use mathlib.Core.Path.{_≡_, refl, ap, sym, _∙_}
-use mathlib.Core.Bool.{Bool, true, false, cond, false≢true}
-use mathlib.Core.List.{List, [], _∷_, _++_}
-use mathlib.Core.Option.{Option, none, some}
+use mathlib.Core.Logic.{inl}
+use mathlib.Core.Bool.{Bool, true, false}
+use mathlib.Core.List.{List, [], _∷_}
+use mathlib.Core.Option.{none, some}
 use native.Mathlib.Omega.{arith}
 use native.Mathlib.Numerals.{add-one}
 use native.Mathlib.Decide.{ℕ-discrete}
-use borrow.Author.Tests.{eq-eqb, ne-eqb, ltb-true, lt-ltb, le-ltb, lt-leb, le-leb}
-use lib.Dec.{eqb, ltb, leb}
+use borrow.Author.Tests.{ne-eqb, ltb-true, lt-leb, le-leb}
+use lib.Dec.{ltb, leb}
 use lib.ListN.{length, take, drop, getD, replicate, drop-of-length-le}
 use lib.Seq.{drop-cons, take-suc, length-take-le}
-use Rattle.meaning.specs.Bytes.{_∧ᵇ_, within, zeros, Layout, width, reads, typeRow}
-use Rattle.meaning.specs.Types.{Form, absent, formNo, partsNo, result, parts, types, names, formOf, every, below, groundForm, ground, lastForm, fieldsOk, fresh, groundCall, typeOk, badTypeFrom, badType}
+use Rattle.meaning.specs.Bytes.{_∧ᵇ_, within, zeros, Layout, width, reads}
+use Rattle.meaning.specs.Types.{Form, formNo, partsNo, result, parts, types, names, formOf, every, below, groundForm, ground, lastForm, fieldsOk, fresh, groundCall, typeOk, badTypeFrom, badType}
 use Rattle.meaning.proofs.Tests.{left, right}
 use Rattle.meaning.proofs.Tables.{ground-below}
-use Rattle.layout.proofs.Laws.{rows-length}
 use Rattle.types.specs.Table.{table, functionOk, namesOk, partsGround, Truthful}
 use Rattle.types.proofs.Laws.{form-row, form-absent}
 use Rattle.types.proofs.Checks.{fields-function}
@@ -136,4 +136,4 @@ zero-at (suc n) (suc t) = zero-at n t
 
 pub says-nothing : (n : ℕ) (form : ℕ → Form) → Truthful (replicate n 0) form
 unfolding Truthful
-says-nothing n form t = let z = zero-at n t in (λ e. absurd (omega arith), λ e. absurd (omega arith))
+says-nothing n form t = inl (zero-at n t)

@@ -1,17 +1,18 @@
 -- Whether a type is ground goes by its parts, and what a memo of it may be told. Assumes nothing.
-use Prim.Native.Nat.{ℕ, zero, suc, _+_, _*_, _<_, _≤_}
-use mathlib.Core.Path.{_≡_, refl, ap, sym, _∙_, fun-ext}
-use mathlib.Core.Bool.{Bool, true, false, cond, false≢true}
-use mathlib.Core.List.{List, [], _∷_}
+use Prim.Native.Nat.{ℕ, _+_, _<_, _≤_}
+use mathlib.Core.Path.{_≡_, refl, ap, sym, _∙_}
+use mathlib.Core.Logic.{_⊎_, inl, inr}
+use mathlib.Core.Bool.{Bool, true, false}
+use mathlib.Core.List.{List}
 use native.Mathlib.Omega.{arith}
 use native.Mathlib.Numerals.{add-one}
 use native.Mathlib.Decide.{decLt, ℕ-discrete}
-use borrow.Author.Tests.{ltb-true, lt-ltb, le-ltb}
+use borrow.Author.Tests.{lt-ltb, le-ltb}
 use lib.Dec.{eqb, ltb}
-use lib.ListN.{length, take, drop, getD, set, drop-of-length-le}
+use lib.ListN.{length, drop, getD, set, drop-of-length-le}
 use lib.Seq.{drop-cons, getD-set-same, getD-set-other, set-out}
 use Rattle.meaning.specs.Bytes.{_∧ᵇ_}
-use Rattle.meaning.specs.Types.{Form, absent, base, fList, fTuple, fFun, types, formNo, partsNo, result, parts, formRow, every, groundForm, groundBelow, ground}
+use Rattle.meaning.specs.Types.{Form, types, formNo, result, parts, formRow, every, groundForm, ground}
 use Rattle.meaning.proofs.Tables.{ground-eq}
 use Rattle.types.specs.Table.{mark, Truthful, Told}
 use Rattle.types.proofs.Laws.{row-none, row-str, row-file, row-truth, row-list, row-tuple, row-native, row-foreign, row-beyond}
@@ -37,17 +38,21 @@ module _ (form : ℕ → Form) (t : ℕ) (r : List ℕ) (m : form t ≡ formRow 
   by-row : (x : Form) → formRow r ≡ x → ground form t ≡ groundForm (partGround form t) x
   by-row x q = ground-parts form t ∙ ap (groundForm (partGround form t)) (m ∙ q)
 
-  pub ground-none : f ≡ 0 → ground form t ≡ false
+  ground-none : f ≡ 0 → ground form t ≡ false
   unfolding groundForm
   ground-none q = by-row _ (row-none r f e q)
 
-  pub ground-plain : (f ≡ 0 → ⊥) → f < 4 → ground form t ≡ true
+  ground-plain : (f ≡ 0 → ⊥) → f < 4 → ground form t ≡ true
   unfolding groundForm
   ground-plain n h =
       elim (ℕ-discrete f 1) [
         | yes q ↦ by-row _ (row-str r f e q)
         | no a ↦ elim (ℕ-discrete f 2) [ yes q ↦ by-row _ (row-file r f e q) | no b ↦ by-row _ (row-truth r f e (omega arith)) ]
       ]
+
+  pub ground-low : f < 4 → ground form t ≡ ltb 0 f
+  ground-low h =
+      elim (ℕ-discrete f 0) [ yes q ↦ ground-none q ∙ sym (le-ltb 0 f (omega arith)) | no n ↦ ground-plain n h ∙ sym (lt-ltb 0 f (omega arith)) ]
 
   pub ground-list : f ≡ 4 → ground form t ≡ partGround form t (result r)
   unfolding groundForm
@@ -82,17 +87,18 @@ every-end p l k h = rw (drop-of-length-le l {i = k} h)
 -- The memo -------------------------------------------------------------------------------------------------------
 
 module _ (known : List ℕ) (form : ℕ → Form) (m : Truthful known form) (t : ℕ) where
-  pub said-yes : getD known t 0 ≡ 1 → ground form t ≡ true
-  unfolding Truthful
-  said-yes e = m t .0 e
+  -- what it says is true
+  said-is : (x : ℕ) → (x ≡ 0) ⊎ (x ≡ mark (ground form t)) → (x ≡ 0 → ⊥) → eqb x 1 ≡ ground form t
+  said-is x (inl e) n = absurd (n e)
+  said-is x (inr e) n = rw e (marked (ground form t))
+    where
+      marked : (b : Bool) → eqb (mark b) 1 ≡ b
+      marked true = refl
+      marked false = refl
 
-  pub said-no : getD known t 0 ≡ 2 → ground form t ≡ false
+  pub said : (getD known t 0 ≡ 0 → ⊥) → eqb (getD known t 0) 1 ≡ ground form t
   unfolding Truthful
-  said-no e = m t .1 e
-
-  marked : (b : Bool) → b ≡ ground form t → (mark b ≡ 1 → ground form t ≡ true) × (mark b ≡ 2 → ground form t ≡ false)
-  marked true e = (λ q. sym e, λ q. absurd (omega arith))
-  marked false e = (λ q. absurd (omega arith), λ q. sym e)
+  said n = said-is (getD known t 0) (m t) n
 
   remembered : (b : Bool) → b ≡ ground form t → Truthful (set known t (mark b)) form
   unfolding Truthful
@@ -100,7 +106,7 @@ module _ (known : List ℕ) (form : ℕ → Form) (m : Truthful known form) (t :
       elim (ℕ-discrete u t) [
         | no n ↦ rw (getD-set-other known t u (mark b) 0 n) (m u)
         | yes q ↦ elim (decLt t (length known)) [
-          | yes h ↦ rw (q, getD-set-same known t (mark b) 0 h) (marked b e)
+          | yes h ↦ inr (rw (q, getD-set-same known t (mark b) 0 h) (ap mark e))
           | no h ↦ rw (set-out known t (mark b) (omega arith)) (m u)
         ]
       ]

@@ -1,15 +1,13 @@
 -- What the numbers of a type row say: the form of a type, and the list of its parts. Assumes nothing.
 use Prim.Native.Nat.{ℕ, zero, suc, _+_, _*_, _<_, _≤_, min}
-use mathlib.Core.Path.{_≡_, refl, ap, sym, _∙_}
-use mathlib.Core.Bool.{Bool, true, false, cond}
+use mathlib.Core.Path.{_≡_, refl, ap, _∙_}
 use mathlib.Core.List.{List, [], _∷_}
 use native.Mathlib.Omega.{arith}
-use borrow.Author.Tests.{eq-eqb, ne-eqb}
-use lib.Dec.{eqb}
+use borrow.Author.Tests.{ne-eqb}
 use lib.ListN.{length, take, drop, getD, length-take, length-drop, List·getD-eq-default}
 use lib.Seq.{getD-take, getD-drop}
-use Rattle.meaning.specs.Bytes.{read, reads, typeRow}
-use Rattle.meaning.specs.Types.{Base, Str, File, Truth, Side, ntv, frn, Param, Form, absent, base, fList, fTuple, fFun, types, names, pairs, formNo, partsNo, result, parts, formRow, formOf}
+use Rattle.meaning.specs.Bytes.{read, typeRow}
+use Rattle.meaning.specs.Types.{Str, File, Truth, ntv, frn, Param, absent, base, fList, fTuple, fFun, types, names, pairs, formNo, partsNo, result, parts, formRow, formOf}
 use Rattle.layout.proofs.Laws.{rows-length, type-rows-at}
 use Rattle.types.specs.Table.{typeAt, table, firstNames, firstTypes}
 

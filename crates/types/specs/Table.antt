@@ -1,12 +1,13 @@
 -- Rows of a type table in bytes, the parts of the fields test, and what a memo of ground types may say. Assumes nothing.
-use Prim.Native.Nat.{ℕ, _+_, _*_, _≤_}
+use Prim.Native.Nat.{ℕ, _+_, _*_}
 use mathlib.Core.Path.{_≡_}
+use mathlib.Core.Logic.{_⊎_}
 use mathlib.Core.Bool.{Bool, true, false}
 use mathlib.Core.List.{List}
 use lib.Dec.{eqb, leb}
-use lib.ListN.{length, take, drop, getD}
+use lib.ListN.{take, drop, getD}
 use Rattle.meaning.specs.Bytes.{_∧ᵇ_, within, zeros, read, reads, typeRow}
-use Rattle.meaning.specs.Types.{Param, Form, formOf, types, names, pairs, partsNo, result, parts, every, nonzero, distinct, below, ground}
+use Rattle.meaning.specs.Types.{Form, types, names, pairs, partsNo, result, parts, every, nonzero, distinct, below, ground}
 
 -- row t of the type rows that begin at base, and the first `count` of them
 abbrev pub typeAt : List ℕ → ℕ → ℕ → List ℕ
@@ -47,9 +48,9 @@ abbrev pub mark : Bool → ℕ
 mark true = 1
 mark false = 2
 
--- a memo of types: 1 is said of ground types only, 2 of types that are not
+-- a memo of types: of each it says nothing, or what is true
 unfoldable pub Truthful : List ℕ → (ℕ → Form) → Type 0
-Truthful known form = (t : ℕ) → (getD known t 0 ≡ 1 → ground form t ≡ true) × (getD known t 0 ≡ 2 → ground form t ≡ false)
+Truthful known form = (t : ℕ) → (getD known t 0 ≡ 0) ⊎ (getD known t 0 ≡ mark (ground form t))
 
 -- what a walk over the table with a memo answers and leaves
 pub record Told (form : ℕ → Form) (known : List ℕ) (due b : Bool) : Type 0 where

@@ -1,11 +1,10 @@
 // The type table: what a type row says, which types are ground, and the first bad row.
 use layout::Found;
 ghost use mathlib.Core.Path.{_≡_};
-ghost use mathlib.Core.Bool.{true};
 ghost use Prim.Native.Nat.{_+_, _*_, _≤_, _<_};
-ghost use lib.ListN.{length, take, drop, getD, set};
+ghost use lib.ListN.{length, drop, set};
 ghost use Rattle.meaning.specs.Bytes.{zeros, reads, typeRow};
-ghost use Rattle.meaning.specs.Types.{formNo, partsNo, result, parts, every, below, member, sameNumbers, formOf, ground, lastForm, fieldsOk, fresh, groundCall, typeOk, badType};
+ghost use Rattle.meaning.specs.Types.{parts, every, below, member, sameNumbers, formOf, ground, lastForm, fieldsOk, fresh, groundCall, typeOk, badType};
 ghost use Rattle.layout.specs.Rows.{found};
 ghost use Rattle.types.specs.Table.{typeAt, table, firstNames, firstTypes, plainOk, listOk, tupleOk, namesOk, functionOk, partsGround, mark, Truthful, Told};
 
@@ -266,18 +265,12 @@ pub fn ground(types: &[u8], base: usize, count: usize, known: &mut [u8; 256], t:
     ensures { λ b. ⌜ Told (formOf (reads typeRow count (drop base (now (types .entry))))) (now (known .exit)) (ground (formOf (reads typeRow count (drop base (now (types .entry))))) t) b ⌝ }
 {
     let said = known[t];
-    if said == 1 {
-        return true;
-    }
-    if said == 2 {
-        return false;
+    if said != 0 {
+        return said == 1;
     }
     let form = layout::form_no(types, base, t);
-    if form == 0 {
-        return remember(known, t, false);
-    }
     if form < 4 {
-        return remember(known, t, true);
+        return remember(known, t, 0 < form);
     }
     if form == 4 {
         let e = layout::result_no(types, base, t) as usize;

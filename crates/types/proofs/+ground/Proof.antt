@@ -6,7 +6,7 @@ use lib.ListN.{drop}
 use Rattle.meaning.specs.Types.{types as typesOf, parts, formOf, every}
 use Rattle.types.specs.Table.{typeAt, table, Truthful}
 use Rattle.types.proofs.Laws.{form-row, row-length, types-length, part-type, parts-few}
-use Rattle.types.proofs.GroundLaws.{partGround, part-low, part-high, ground-none, ground-plain, ground-list, ground-tuple, ground-other, every-no, every-on, every-end, said-yes, said-no, tells}
+use Rattle.types.proofs.GroundLaws.{partGround, part-low, part-high, ground-low, ground-list, ground-tuple, ground-other, every-no, every-on, every-end, said, tells}
 use borrow.Fn.Kinds.{In}
 use borrow.Fn.PlainCycle.{Measures, is, falls, and}
 use Rattle.types.proofs.ground.Reads as ground
@@ -57,63 +57,53 @@ pub +ground-spec : {M : Type 1} → statement M
     ground-μ-loop
     (λ c. omega arith)
     -- ground-returns
-    (λ c. let a = c .before .before .before .args in record { answer = sym (said-yes (a .known .now) _ (c .before .before .before .pre .1 .3) (a .t) (c .if1 .taken)); memo = c .before .before .before .pre .1 .3 })
-    -- ground-returns-2
-    (λ c. let a = c .before .before .before .before .args in record { answer = sym (said-no (a .known .now) _ (c .before .before .before .before .pre .1 .3) (a .t) (c .if2 .taken)); memo = c .before .before .before .before .pre .1 .3 })
+    (λ c. let a = c .before .before .before .args in record { answer = said (a .known .now) _ (c .before .before .before .pre .1 .3) (a .t) (c .if1 .taken); memo = c .before .before .before .pre .1 .3 })
     (λ c κs. omega arith)
+    (λ c κs. omega arith)
+    -- ground-returns-2
+    (λ c.
+    let a = c .before .before .before .before .before .before .before .args in
+    let form = formOf (table (a .types .now) (a .base) (a .count)) in
+    let r = typeAt (a .types .now) (a .base) (a .t) in
+    let w = form-row (a .types .now) (a .base) (a .count) (a .t) (omega (arith, c .before .before .before .before .before .before .before .pre .1 .2)) in
+    tells (a .known .now) form (c .before .before .before .before .before .before .before .pre .1 .3) (a .t) _ _ _ (c .remember .ensures) (ground-low form (a .t) r w _ (c .before .before .before .form-no .ensures) (c .before .before .if2 .taken)))
+    (λ c κs. omega arith)
+    (λ c. omega arith)
     (λ c κs. omega arith)
     -- ground-returns-3
     (λ c.
-    let a = c .before .before .before .before .before .before .before .before .args in
+    let a = c .before .before .before .before .before .before .before .before .before .before .args in
     let form = formOf (table (a .types .now) (a .base) (a .count)) in
     let r = typeAt (a .types .now) (a .base) (a .t) in
-    let w = form-row (a .types .now) (a .base) (a .count) (a .t) (omega (arith, c .before .before .before .before .before .before .before .before .pre .1 .2)) in
-    tells (a .known .now) form (c .before .before .before .before .before .before .before .before .pre .1 .3) (a .t) _ _ _ (c .remember .ensures) (ground-none form (a .t) r w _ (c .before .before .before .form-no .ensures) (c .before .before .if3 .taken)))
+    let w = form-row (a .types .now) (a .base) (a .count) (a .t) (omega (arith, c .before .before .before .before .before .before .before .before .before .before .pre .1 .2)) in
+    tells (a .known .now) form (c .before .before .before .before .before .before .before .before .before .before .pre .1 .3) (a .t) _ _ _ (c .remember2 .ensures) (ground-list form (a .t) r w _ (c .before .before .before .before .before .before .form-no .ensures) (c .before .before .before .before .if3 .taken) ∙ ap (partGround form (a .t)) (sym (c .before .before .before .result-no .ensures)) ∙ part-high form (a .t) _ (c .before .before .if4 .taken)))
+    -- ground-ground-requires
+    (λ c κs. (omega (arith, c .before .before .before .before .before .before .before .before .before .pre .0), (omega (arith, c .before .before .before .before .before .before .before .before .before .pre .1 .0), omega (arith, c .before .before .before .before .before .before .before .before .before .pre .1 .1), omega (arith, c .before .before .before .before .before .before .before .before .before .pre .1 .2), c .before .before .before .before .before .before .before .before .before .pre .1 .3)))
     (λ c κs. omega arith)
     -- ground-returns-4
+    (λ c.
+    let a = c .before .before .before .before .before .before .before .before .before .before .before .before .args in
+    let form = formOf (table (a .types .now) (a .base) (a .count)) in
+    let r = typeAt (a .types .now) (a .base) (a .t) in
+    let w = form-row (a .types .now) (a .base) (a .count) (a .t) (omega (arith, c .before .before .before .before .before .before .before .before .before .before .before .before .pre .1 .2)) in
+    tells _ form (c .before .before .ground .ensures .memo) (a .t) _ _ _ (c .remember3 .ensures) (ground-list form (a .t) r w _ (c .before .before .before .before .before .before .before .before .form-no .ensures) (c .before .before .before .before .before .before .if3 .taken) ∙ ap (partGround form (a .t)) (sym (c .before .before .before .before .before .result-no .ensures)) ∙ part-low form (a .t) _ (c .before .before .before .before .if4 .left) ∙ sym (c .before .before .ground .ensures .answer)))
+    (λ c κs. omega arith)
+    -- ground-returns-5
     (λ c.
     let a = c .before .before .before .before .before .before .before .before .before .args in
     let form = formOf (table (a .types .now) (a .base) (a .count)) in
     let r = typeAt (a .types .now) (a .base) (a .t) in
     let w = form-row (a .types .now) (a .base) (a .count) (a .t) (omega (arith, c .before .before .before .before .before .before .before .before .before .pre .1 .2)) in
-    tells (a .known .now) form (c .before .before .before .before .before .before .before .before .before .pre .1 .3) (a .t) _ _ _ (c .remember2 .ensures) (ground-plain form (a .t) r w _ (c .before .before .before .before .form-no .ensures) (c .before .before .before .if3 .left) (c .before .before .if4 .taken)))
-    (λ c κs. omega arith)
-    (λ c. omega arith)
-    (λ c κs. omega arith)
-    -- ground-returns-5
-    (λ c.
-    let a = c .before .before .before .before .before .before .before .before .before .before .before .before .args in
-    let form = formOf (table (a .types .now) (a .base) (a .count)) in
-    let r = typeAt (a .types .now) (a .base) (a .t) in
-    let w = form-row (a .types .now) (a .base) (a .count) (a .t) (omega (arith, c .before .before .before .before .before .before .before .before .before .before .before .before .pre .1 .2)) in
-    tells (a .known .now) form (c .before .before .before .before .before .before .before .before .before .before .before .before .pre .1 .3) (a .t) _ _ _ (c .remember3 .ensures) (ground-list form (a .t) r w _ (c .before .before .before .before .before .before .before .form-no .ensures) (c .before .before .before .before .if5 .taken) ∙ ap (partGround form (a .t)) (sym (c .before .before .before .result-no .ensures)) ∙ part-high form (a .t) _ (c .before .before .if6 .taken)))
-    -- ground-ground-requires
-    (λ c κs. (omega (arith, c .before .before .before .before .before .before .before .before .before .before .before .pre .0), (omega (arith, c .before .before .before .before .before .before .before .before .before .before .before .pre .1 .0), omega (arith, c .before .before .before .before .before .before .before .before .before .before .before .pre .1 .1), omega (arith, c .before .before .before .before .before .before .before .before .before .before .before .pre .1 .2), c .before .before .before .before .before .before .before .before .before .before .before .pre .1 .3)))
-    (λ c κs. omega arith)
-    -- ground-returns-6
-    (λ c.
-    let a = c .before .before .before .before .before .before .before .before .before .before .before .before .before .before .args in
-    let form = formOf (table (a .types .now) (a .base) (a .count)) in
-    let r = typeAt (a .types .now) (a .base) (a .t) in
-    let w = form-row (a .types .now) (a .base) (a .count) (a .t) (omega (arith, c .before .before .before .before .before .before .before .before .before .before .before .before .before .before .pre .1 .2)) in
-    tells _ form (c .before .before .ground .ensures .memo) (a .t) _ _ _ (c .remember4 .ensures) (ground-list form (a .t) r w _ (c .before .before .before .before .before .before .before .before .before .form-no .ensures) (c .before .before .before .before .before .before .if5 .taken) ∙ ap (partGround form (a .t)) (sym (c .before .before .before .before .before .result-no .ensures)) ∙ part-low form (a .t) _ (c .before .before .before .before .if6 .left) ∙ sym (c .before .before .ground .ensures .answer)))
-    (λ c κs. omega arith)
-    -- ground-returns-7
-    (λ c.
-    let a = c .before .before .before .before .before .before .before .before .before .before .before .args in
-    let form = formOf (table (a .types .now) (a .base) (a .count)) in
-    let r = typeAt (a .types .now) (a .base) (a .t) in
-    let w = form-row (a .types .now) (a .base) (a .count) (a .t) (omega (arith, c .before .before .before .before .before .before .before .before .before .before .before .pre .1 .2)) in
-    tells (a .known .now) form (c .before .before .before .before .before .before .before .before .before .before .before .pre .1 .3) (a .t) _ _ _ (c .remember5 .ensures) (ground-other form (a .t) r w _ (c .before .before .before .before .before .before .form-no .ensures) (c .before .before .before .before .if4 .left) (c .before .before .before .if5 .left) (c .before .before .if7 .taken)))
+    tells (a .known .now) form (c .before .before .before .before .before .before .before .before .before .pre .1 .3) (a .t) _ _ _ (c .remember4 .ensures) (ground-other form (a .t) r w _ (c .before .before .before .before .before .form-no .ensures) (c .before .before .before .before .if2 .left) (c .before .before .before .if3 .left) (c .before .before .if5 .taken)))
     (λ c κs. omega arith)
     -- ground-loop-holds
-    (λ c. (omega arith, refl, c .before .before .before .before .before .before .before .before .before .before .pre .1 .3))
+    (λ c. (omega arith, refl, c .before .before .before .before .before .before .before .before .pre .1 .3))
     -- ground-type-no-requires
     (λ c κs.
-    let a = c .before .before .before .before .before .before .before .before .before .before .before .before .args in
+    let a = c .before .before .before .before .before .before .before .before .before .before .args in
     let form = formOf (table (a .types .now) (a .base) (a .count)) in
     let r = typeAt (a .types .now) (a .base) (a .t) in
-    let w = form-row (a .types .now) (a .base) (a .count) (a .t) (omega (arith, c .before .before .before .before .before .before .before .before .before .before .before .before .pre .1 .2)) in
+    let w = form-row (a .types .now) (a .base) (a .count) (a .t) (omega (arith, c .before .before .before .before .before .before .before .before .before .before .pre .1 .2)) in
     let l = c .before .loop in
     let z = row-length (drop (a .base + 36 * a .t) (a .types .now)) in
     let n = types-length (parts r) in
@@ -121,53 +111,53 @@ pub +ground-spec : {M : Type 1} → statement M
     (omega arith, omega (arith, parts-few r z)))
     (λ c. omega arith)
     (λ c κs. omega arith)
-    -- ground-returns-8
-    (λ c.
-    let a = c .before .before .before .before .before .before .before .before .before .before .before .before .before .before .before .before .args in
-    let form = formOf (table (a .types .now) (a .base) (a .count)) in
-    let r = typeAt (a .types .now) (a .base) (a .t) in
-    let w = form-row (a .types .now) (a .base) (a .count) (a .t) (omega (arith, c .before .before .before .before .before .before .before .before .before .before .before .before .before .before .before .before .pre .1 .2)) in
-    let l = c .before .before .before .before .before .loop in
-    let z = row-length (drop (a .base + 36 * a .t) (a .types .now)) in
-    let n = types-length (parts r) in
-    let m = c .before .before .before .before .before .before .part-count .ensures in
-    tells (l .known) form (l .inv .2) (a .t) _ _ _ (c .remember6 .ensures) (ground-tuple form (a .t) r w _ (c .before .before .before .before .before .before .before .before .before .before .before .form-no .ensures) (c .before .before .before .before .before .before .before .if7 .left) ∙ sym (l .inv .1) ∙ every-no (partGround form (a .t)) (typesOf (parts r)) (l .k) _ (omega arith) (part-type r z (l .k) (omega arith) ∙ sym (c .before .before .before .type-no .ensures)) (part-high form (a .t) _ (c .before .before .if8 .taken))))
-    -- ground-ground-requires-2
-    (λ c κs. (omega (arith, c .before .before .before .before .before .before .before .before .before .before .before .before .before .before .before .pre .0), (omega (arith, c .before .before .before .before .before .before .before .before .before .before .before .before .before .before .before .pre .1 .0), omega (arith, c .before .before .before .before .before .before .before .before .before .before .before .before .before .before .before .pre .1 .1), omega (arith, c .before .before .before .before .before .before .before .before .before .before .before .before .before .before .before .pre .1 .2), c .before .before .before .before .loop .inv .2)))
-    (λ c. omega arith)
-    (λ c. omega arith)
-    -- ground-loop-again
-    (λ c.
-    let a = c .before .before .before .before .before .before .before .before .before .before .before .before .before .before .before .before .before .args in
-    let form = formOf (table (a .types .now) (a .base) (a .count)) in
-    let r = typeAt (a .types .now) (a .base) (a .t) in
-    let w = form-row (a .types .now) (a .base) (a .count) (a .t) (omega (arith, c .before .before .before .before .before .before .before .before .before .before .before .before .before .before .before .before .before .pre .1 .2)) in
-    let l = c .before .before .before .before .before .before .loop in
-    let z = row-length (drop (a .base + 36 * a .t) (a .types .now)) in
-    let n = types-length (parts r) in
-    let m = c .before .before .before .before .before .before .before .part-count .ensures in
-    (omega arith, sym (every-on (partGround form (a .t)) (typesOf (parts r)) (l .k) _ (omega arith) (part-type r z (l .k) (omega arith) ∙ sym (c .before .before .before .before .type-no .ensures)) (part-low form (a .t) _ (c .before .before .before .if8 .left) ∙ sym (c .before .ground2 .ensures .answer) ∙ c .if9 .taken)) ∙ l .inv .1, c .before .ground2 .ensures .memo))
-    (λ c κs. omega arith)
-    -- ground-returns-9
-    (λ c.
-    let a = c .before .before .before .before .before .before .before .before .before .before .before .before .before .before .before .before .before .before .before .args in
-    let form = formOf (table (a .types .now) (a .base) (a .count)) in
-    let r = typeAt (a .types .now) (a .base) (a .t) in
-    let w = form-row (a .types .now) (a .base) (a .count) (a .t) (omega (arith, c .before .before .before .before .before .before .before .before .before .before .before .before .before .before .before .before .before .before .before .pre .1 .2)) in
-    let l = c .before .before .before .before .before .before .before .before .loop in
-    let z = row-length (drop (a .base + 36 * a .t) (a .types .now)) in
-    let n = types-length (parts r) in
-    let m = c .before .before .before .before .before .before .before .before .before .part-count .ensures in
-    tells _ form (c .before .before .before .ground2 .ensures .memo) (a .t) _ _ _ (c .remember7 .ensures) (ground-tuple form (a .t) r w _ (c .before .before .before .before .before .before .before .before .before .before .before .before .before .before .form-no .ensures) (c .before .before .before .before .before .before .before .before .before .before .if7 .left) ∙ sym (l .inv .1) ∙ every-no (partGround form (a .t)) (typesOf (parts r)) (l .k) _ (omega arith) (part-type r z (l .k) (omega arith) ∙ sym (c .before .before .before .before .before .before .type-no .ensures)) (part-low form (a .t) _ (c .before .before .before .before .before .if8 .left) ∙ sym (c .before .before .before .ground2 .ensures .answer) ∙ c .before .before .if9 .left)))
-    (λ c κs. omega arith)
-    -- ground-returns-10
+    -- ground-returns-6
     (λ c.
     let a = c .before .before .before .before .before .before .before .before .before .before .before .before .before .before .args in
     let form = formOf (table (a .types .now) (a .base) (a .count)) in
     let r = typeAt (a .types .now) (a .base) (a .t) in
     let w = form-row (a .types .now) (a .base) (a .count) (a .t) (omega (arith, c .before .before .before .before .before .before .before .before .before .before .before .before .before .before .pre .1 .2)) in
+    let l = c .before .before .before .before .before .loop in
+    let z = row-length (drop (a .base + 36 * a .t) (a .types .now)) in
+    let n = types-length (parts r) in
+    let m = c .before .before .before .before .before .before .part-count .ensures in
+    tells (l .known) form (l .inv .2) (a .t) _ _ _ (c .remember5 .ensures) (ground-tuple form (a .t) r w _ (c .before .before .before .before .before .before .before .before .before .before .form-no .ensures) (c .before .before .before .before .before .before .before .if5 .left) ∙ sym (l .inv .1) ∙ every-no (partGround form (a .t)) (typesOf (parts r)) (l .k) _ (omega arith) (part-type r z (l .k) (omega arith) ∙ sym (c .before .before .before .type-no .ensures)) (part-high form (a .t) _ (c .before .before .if6 .taken))))
+    -- ground-ground-requires-2
+    (λ c κs. (omega (arith, c .before .before .before .before .before .before .before .before .before .before .before .before .before .pre .0), (omega (arith, c .before .before .before .before .before .before .before .before .before .before .before .before .before .pre .1 .0), omega (arith, c .before .before .before .before .before .before .before .before .before .before .before .before .before .pre .1 .1), omega (arith, c .before .before .before .before .before .before .before .before .before .before .before .before .before .pre .1 .2), c .before .before .before .before .loop .inv .2)))
+    (λ c. omega arith)
+    (λ c. omega arith)
+    -- ground-loop-again
+    (λ c.
+    let a = c .before .before .before .before .before .before .before .before .before .before .before .before .before .before .before .args in
+    let form = formOf (table (a .types .now) (a .base) (a .count)) in
+    let r = typeAt (a .types .now) (a .base) (a .t) in
+    let w = form-row (a .types .now) (a .base) (a .count) (a .t) (omega (arith, c .before .before .before .before .before .before .before .before .before .before .before .before .before .before .before .pre .1 .2)) in
+    let l = c .before .before .before .before .before .before .loop in
+    let z = row-length (drop (a .base + 36 * a .t) (a .types .now)) in
+    let n = types-length (parts r) in
+    let m = c .before .before .before .before .before .before .before .part-count .ensures in
+    (omega arith, sym (every-on (partGround form (a .t)) (typesOf (parts r)) (l .k) _ (omega arith) (part-type r z (l .k) (omega arith) ∙ sym (c .before .before .before .before .type-no .ensures)) (part-low form (a .t) _ (c .before .before .before .if6 .left) ∙ sym (c .before .ground2 .ensures .answer) ∙ c .if7 .taken)) ∙ l .inv .1, c .before .ground2 .ensures .memo))
+    (λ c κs. omega arith)
+    -- ground-returns-7
+    (λ c.
+    let a = c .before .before .before .before .before .before .before .before .before .before .before .before .before .before .before .before .before .args in
+    let form = formOf (table (a .types .now) (a .base) (a .count)) in
+    let r = typeAt (a .types .now) (a .base) (a .t) in
+    let w = form-row (a .types .now) (a .base) (a .count) (a .t) (omega (arith, c .before .before .before .before .before .before .before .before .before .before .before .before .before .before .before .before .before .pre .1 .2)) in
+    let l = c .before .before .before .before .before .before .before .before .loop in
+    let z = row-length (drop (a .base + 36 * a .t) (a .types .now)) in
+    let n = types-length (parts r) in
+    let m = c .before .before .before .before .before .before .before .before .before .part-count .ensures in
+    tells _ form (c .before .before .before .ground2 .ensures .memo) (a .t) _ _ _ (c .remember6 .ensures) (ground-tuple form (a .t) r w _ (c .before .before .before .before .before .before .before .before .before .before .before .before .before .form-no .ensures) (c .before .before .before .before .before .before .before .before .before .before .if5 .left) ∙ sym (l .inv .1) ∙ every-no (partGround form (a .t)) (typesOf (parts r)) (l .k) _ (omega arith) (part-type r z (l .k) (omega arith) ∙ sym (c .before .before .before .before .before .before .type-no .ensures)) (part-low form (a .t) _ (c .before .before .before .before .before .if6 .left) ∙ sym (c .before .before .before .ground2 .ensures .answer) ∙ c .before .before .if7 .left)))
+    (λ c κs. omega arith)
+    -- ground-returns-8
+    (λ c.
+    let a = c .before .before .before .before .before .before .before .before .before .before .before .before .args in
+    let form = formOf (table (a .types .now) (a .base) (a .count)) in
+    let r = typeAt (a .types .now) (a .base) (a .t) in
+    let w = form-row (a .types .now) (a .base) (a .count) (a .t) (omega (arith, c .before .before .before .before .before .before .before .before .before .before .before .before .pre .1 .2)) in
     let l = c .before .before .before .loop in
     let z = row-length (drop (a .base + 36 * a .t) (a .types .now)) in
     let n = types-length (parts r) in
     let m = c .before .before .before .before .part-count .ensures in
-    tells (l .known) form (l .inv .2) (a .t) _ _ _ (c .remember8 .ensures) (ground-tuple form (a .t) r w _ (c .before .before .before .before .before .before .before .before .before .form-no .ensures) (c .before .before .before .before .before .if7 .left) ∙ sym (l .inv .1) ∙ every-end (partGround form (a .t)) (typesOf (parts r)) (l .k) (omega arith)))
+    tells (l .known) form (l .inv .2) (a .t) _ _ _ (c .remember7 .ensures) (ground-tuple form (a .t) r w _ (c .before .before .before .before .before .before .before .before .form-no .ensures) (c .before .before .before .before .before .if5 .left) ∙ sym (l .inv .1) ∙ every-end (partGround form (a .t)) (typesOf (parts r)) (l .k) (omega arith)))
