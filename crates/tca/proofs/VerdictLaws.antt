@@ -15,7 +15,7 @@ use Rattle.meaning.specs.Terms.{kindNo, rowOf, shape, treeOf}
 use Rattle.meaning.specs.Types.{formOf, empty, badType}
 use Rattle.meaning.specs.Typing.{later, firstBad}
 use Rattle.meaning.specs.Records.{firstNot, recordOf}
-use Rattle.meaning.specs.Entries.{require, refuse, refuseShape, fileNo, fileTypeCount, fileRowCount, fileTypes, fileRows, fileTree, noFuture, programVerdict, loadVerdict, leaves, loadedState, load}
+use Rattle.meaning.specs.Entries.{require, refuse, refuseShape, fileNo, fileTypeCount, fileRowCount, fileTypes, fileRows, fileTree, noFuture, programVerdict, loadVerdict, leaves, loadedState, load, LoadSays}
 use Rattle.meaning.specs.declared.Fault.{Fault}
 use Rattle.meaning.specs.declared.Shape.the-variants.{Whole, Bad}
 use Rattle.meaning.specs.declared.Refusal.{Refusal}
@@ -23,7 +23,7 @@ use Rattle.meaning.specs.declared.Refusal.the-variants.{Length, Size, Mark, Ver
 use Rattle.meaning.specs.declared.Verdict.{Verdict}
 use Rattle.meaning.specs.declared.Verdict.the-variants.{Accepted, Refused}
 use Rattle.meaning.proofs.Tests.{left, right, within-if}
-use Rattle.tca.specs.Loads.{marked, countsOk, Loads}
+use Rattle.tca.specs.Loads.{marked, countsOk}
 
 -- The header's tests ---------------------------------------------------------------------------------------------
 
@@ -156,10 +156,10 @@ module _ (m : Limits) (s kept : List ℕ) (v : Verdict) (a : m ≡ arm) (e : v �
   decided : v ≡ loadVerdict arm s (length kept)
   decided = e ∙ ap (λ (x : Limits). loadVerdict x s (length kept)) a
 
-  pub loads-fresh : (kept′ : List ℕ) → v ≡ Accepted → kept′ ≡ recordOf m (loadedState s) → Loads s kept kept′ v
+  pub loads-fresh : (kept′ : List ℕ) → v ≡ Accepted → kept′ ≡ recordOf m (loadedState s) → LoadSays arm s kept v kept′
   unfolding load leaves
-  loads-fresh kept′ q b = record { verdict = decided; bytes = b ∙ rw (← decided, q, a) }
+  loads-fresh kept′ q b = record { verdict = decided; kept-bytes = b ∙ rw (← decided, q, a) }
 
-  pub loads-nothing : (r : Refusal) → v ≡ Refused r → Loads s kept kept v
+  pub loads-nothing : (r : Refusal) → v ≡ Refused r → LoadSays arm s kept v kept
   unfolding load leaves
-  loads-nothing r q = record { verdict = decided; bytes = rw (← decided, q) }
+  loads-nothing r q = record { verdict = decided; kept-bytes = rw (← decided, q) }

@@ -14,8 +14,8 @@ ghost use lib.ListN.{length, drop};
 ghost use Rattle.layout.specs.Rows.{found, board};
 ghost use Rattle.meaning.specs.Bytes.{reads, termRow, arm};
 ghost use Rattle.meaning.specs.Records.{firstNot};
-ghost use Rattle.meaning.specs.Entries.{fileTypeCount, fileRowCount, noFuture, programVerdict, loadVerdict};
-ghost use Rattle.tca.specs.Loads.{Loads, Tells};
+ghost use Rattle.meaning.specs.Entries.{fileTypeCount, fileRowCount, noFuture, programVerdict, loadVerdict, LoadSays};
+ghost use Rattle.tca.specs.Loads.{Tells};
 
 // The edition of the file format that is read.
 const VERSION: u16 = 1;
@@ -114,7 +114,7 @@ fn load_verdict(file: &[u8], room: usize, m: Limits) -> meaning::Verdict
 }
 
 pub fn load(file: &[u8], kept: &mut [u8]) -> meaning::Verdict
-    ensures { λ v. ⌜ Loads (now (file .entry)) (now (kept .entry)) (now (kept .exit)) v ⌝ }
+    ensures { λ v. ⌜ LoadSays arm (now (file .entry)) (now (kept .entry)) v (now (kept .exit)) ⌝ }
 {
     let m = arm_limits();
     let v = load_verdict(file, kept.len(), m);

@@ -9,4 +9,4 @@ pub tca-load-spec : {M : Type 1} → statement M
 tca-load-spec =
     tie.close
     (tie.spec (λ c κs. search needs) (λ c κs. search needs) (λ c κs. search needs) (λ c. search needs)  -- returns
-    (λ c. record { refusal = c .before .verdict-number .ensures ∙ ap verdictNumber (c .before .before .before .before .load .ensures .verdict); place = c .verdict-place .ensures ∙ ap verdictPlace (c .before .before .before .before .load .ensures .verdict); bytes = c .before .before .before .before .load .ensures .bytes }))
+    (λ c. record { refusal = c .before .verdict-number .ensures ∙ ap verdictNumber (c .before .before .before .before .load .ensures .verdict); place = c .verdict-place .ensures ∙ ap verdictPlace (c .before .before .before .before .load .ensures .verdict); bytes = c .before .before .before .before .load .ensures .kept-bytes }))
