@@ -87,6 +87,8 @@ typedef struct {
  * Accepted: refusal TCA_ACCEPTED, place 0, and every byte of the record is written: the file's types and rows, no open
  * call, next call number 1. Refused: refusal TCA_LENGTH to TCA_TYPING, and no byte of the record is changed. The file
  * is never changed.
+ *
+ * It uses no heap and under 9 KiB of stack (measured on the deepest programs, not proved).
  */
 tca_verdict tca_load(const uint8_t *file, size_t file_len, uint8_t *record, size_t record_len);
 
