@@ -5,19 +5,18 @@ use mathlib.Core.List.{List, [], _∷_, map}
 use mathlib.Core.Option.{Option, none, some}
 use native.Mathlib.Omega.{arith}
 use native.Mathlib.Numerals.{add-one}
-use native.Mathlib.Nat.{add-zero, add-suc}
 use native.Mathlib.Decide.{ℕ-discrete}
-use lib.ListN.{length, getD, set, drop, drop-of-length-le, length-map, List·getD-map, length-drop}
+use lib.ListN.{length, getD, set, drop, drop-of-length-le, length-map, List·getD-map}
 use lib.Seq.{drop-cons, getD-set-same, getD-set-other}
 use Rattle.layout.proofs.Laws.{rows-length, term-rows-at}
 use Rattle.meaning.specs.Bytes.{read, reads, termRow}
-use Rattle.meaning.specs.Terms.{arity, Tree, Forest, node, end, more, Row, size, sizes, rowOf, rowFault, shape, shapeFrom, unless-bad, blank, kids, trees, top, treeAt, grove}
+use Rattle.meaning.specs.Terms.{arity, Tree, node, Row, size, sizes, rowOf, rowFault, shape, shapeFrom, unless-bad, blank, kids, trees, top, treeAt, grove}
 use Rattle.meaning.specs.declared.Fault.{Fault}
 use Rattle.meaning.specs.declared.Fault.the-variants.{Behind, Unfinished}
 use Rattle.meaning.specs.declared.Shape.{Shape}
 use Rattle.meaning.specs.declared.Shape.the-variants.{Whole, Bad}
 use Rattle.meaning.proofs.Parse.{sizes-split, grove-more, tree-row}
-use Rattle.terms.specs.Tables.{Closed, Ends, hop, HopsIn}
+use Rattle.terms.specs.Tables.{Closed, hop, HopsIn}
 
 -- Shape ----------------------------------------------------------------------------------------------------------
 

@@ -1,15 +1,14 @@
 -- Tests on forms, and the rules that ask them, by the numbers of type rows. Assumes nothing.
-use Prim.Native.Nat.{ℕ, zero, suc, _+_, _*_, _<_, _≤_}
-use mathlib.Core.Path.{_≡_, refl, ap, sym, _∙_}
-use mathlib.Core.Bool.{Bool, true, false, cond}
-use mathlib.Core.List.{List, [], _∷_}
+use Prim.Native.Nat.{ℕ, _≤_}
+use mathlib.Core.Path.{_≡_, refl}
+use mathlib.Core.Bool.{Bool, cond}
+use mathlib.Core.List.{List, []}
 use native.Mathlib.Omega.{arith}
 use native.Mathlib.Decide.{decLt}
 use lib.Dec.{eqb}
-use borrow.Author.Tests.{ne-eqb, eq-eqb}
-use lib.ListN.{getD}
+use borrow.Author.Tests.{ne-eqb}
 use Rattle.meaning.specs.Bytes.{_∧ᵇ_}
-use Rattle.meaning.specs.Types.{Base, Str, File, Truth, Side, ntv, frn, Param, Form, absent, base, fList, fTuple, fFun, types, params, formNo, result, parts, formRow, formOf}
+use Rattle.meaning.specs.Types.{Base, Str, File, Truth, Side, ntv, frn, Param, Form, absent, base, fList, fTuple, fFun, types, params, formNo, result, parts, formRow}
 use Rattle.meaning.specs.Typing.{baseNo, isBase, whenList, whenTuple, whenFun}
 use Rattle.typing.specs.Forms.{isFunction}
 use Rattle.terms.proofs.ByKind.{Below, below}

@@ -1,16 +1,15 @@
 -- Tests on the parts of types, part by part. Assumes nothing.
-use Prim.Native.Nat.{ℕ, zero, suc, _+_, _-_, _*_, _/_, _%_, _<_, _≤_}
-use mathlib.Core.Path.{_≡_, refl, ap, sym, _∙_}
-use mathlib.Core.Bool.{Bool, true, false, cond}
+use Prim.Native.Nat.{ℕ, zero, suc, _+_, _-_, _/_, _%_, _<_, _≤_}
+use mathlib.Core.Path.{_≡_, refl, ap, _∙_}
+use mathlib.Core.Bool.{Bool, true, false}
 use mathlib.Core.List.{List, [], _∷_}
-use mathlib.Core.Option.{Option, none, some}
+use mathlib.Core.Option.{none, some}
 use native.Mathlib.Omega.{arith}
-use native.Mathlib.Numerals.{add-one}
 use lib.Dec.{eqb}
-use lib.ListN.{length, getD, drop, drop-of-length-le, length-drop}
+use lib.ListN.{length, getD, drop}
 use Rattle.meaning.specs.Bytes.{_∧ᵇ_}
-use Rattle.meaning.specs.Types.{Param, Form, names, types, place, low, rest, sameNumbers}
-use Rattle.meaning.specs.Typing.{given, sameParams, maskedOk, zippedOk}
+use Rattle.meaning.specs.Types.{Param, Form, names, types, place, low, rest}
+use Rattle.meaning.specs.Typing.{sameParams, maskedOk, zippedOk}
 
 pub types-length : (ps : List Param) → length (types ps) ≡ length ps
 unfolding types

@@ -1,27 +1,27 @@
 -- What the rows of a table state, and the names that they bind. Assumes nothing.
-use Prim.Native.Nat.{ℕ, zero, suc, _+_, _-_, _*_, _<_, _≤_}
-use mathlib.Core.Path.{_≡_, refl, ap, sym, _∙_, subst}
-use mathlib.Core.Bool.{Bool, true, false, cond}
+use Prim.Native.Nat.{ℕ, zero, suc, _+_, _*_, _<_, _≤_}
+use mathlib.Core.Path.{_≡_, refl, ap, sym, _∙_}
+use mathlib.Core.Bool.{Bool, true, false}
 use mathlib.Core.List.{List, [], _∷_, map}
-use mathlib.Core.Option.{Option, none, some}
+use mathlib.Core.Option.{none, some}
 use native.Mathlib.Omega.{arith}
 use native.Mathlib.Numerals.{add-one}
 use native.Mathlib.Decide.{decLt, ℕ-discrete}
-use lib.Dec.{eqb, ltb}
-use borrow.Author.Tests.{eq-eqb, ne-eqb, lt-ltb, le-ltb, eqb-true, eqb-false}
-use lib.ListN.{length, getD, drop, drop-of-length-le, length-map, length-drop}
+use lib.Dec.{eqb}
+use borrow.Author.Tests.{eq-eqb, ne-eqb, lt-ltb, eqb-false}
+use lib.ListN.{length, getD, drop, drop-of-length-le, length-map}
 use lib.Seq.{drop-cons}
 use Rattle.layout.proofs.Laws.{rows-length}
 use Rattle.meaning.specs.Bytes.{_∧ᵇ_, read, reads, termRow}
-use Rattle.meaning.specs.Types.{Form, Param, names, types, params, find, Ctx, empty, pick, _⹁_, sameNumbers}
-use Rattle.meaning.specs.Terms.{Lit, str, Head, lit, var, lambda, foreign, apply, future, ite, fix, nil, cons, isnil, zip, tuple, project, lproject, bind, arity, Tree, Forest, node, end, more, Row, headOf, tyOf, is, code, headFrom, rowOf, size, sizes, blank, kids, trees, top, treeAt, grove}
+use Rattle.meaning.specs.Types.{Form, Param, params, find, Ctx, empty, pick, _⹁_, sameNumbers}
+use Rattle.meaning.specs.Terms.{str, Head, lit, var, lambda, foreign, apply, future, ite, fix, nil, cons, isnil, zip, tuple, project, lproject, bind, arity, Forest, node, Row, headOf, tyOf, is, code, headFrom, rowOf, size, sizes, blank, kids, trees, top, treeAt, grove}
 use Rattle.meaning.specs.Typing.{Tys, ⟨⟩, _▹_, list, tys, scope, ruleOk}
 use Rattle.meaning.proofs.Parse.{grove-more}
 use Rattle.terms.specs.Tables.{Ends}
-use Rattle.terms.proofs.ByKind.{Below, below, head-other}
+use Rattle.terms.proofs.ByKind.{below, head-other}
 use Rattle.terms.proofs.Scan.{tree-here, size-some, grove-size}
-use Rattle.typing.specs.Forms.{forms, termRows, behind, three}
-use Rattle.typing.specs.Scope.{binds, chain, around}
+use Rattle.typing.specs.Forms.{termRows, behind, three}
+use Rattle.typing.specs.Scope.{binds, chain}
 use Rattle.typing.proofs.Faults.{chain-more}
 
 -- Kinds ----------------------------------------------------------------------------------------------------------

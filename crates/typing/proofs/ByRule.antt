@@ -1,18 +1,17 @@
 -- Each rule as tests on the numbers of type rows. Assumes nothing.
-use Prim.Native.Nat.{ℕ, zero, suc, _+_, _-_, _*_, _/_, _%_, _<_, _≤_}
+use Prim.Native.Nat.{ℕ, _<_, _≤_}
 use mathlib.Core.Path.{_≡_, refl, ap, sym, _∙_}
 use mathlib.Core.Bool.{Bool, true, false, cond}
 use mathlib.Core.List.{List, [], _∷_}
-use mathlib.Core.Option.{Option, none, some}
 use native.Mathlib.Omega.{arith}
 use native.Mathlib.Decide.{ℕ-discrete}
 use lib.Dec.{eqb}
 use borrow.Author.Tests.{ne-eqb, eq-eqb}
-use lib.ListN.{length, getD, drop, drop-of-length-le}
+use lib.ListN.{drop}
 use Rattle.meaning.specs.Bytes.{_∧ᵇ_}
-use Rattle.meaning.specs.Types.{Base, Str, File, Truth, Side, ntv, frn, Param, Form, names, types, params, formNo, result, parts, formRow, formOf, Ctx, place, low, rest, sameNumbers}
-use Rattle.meaning.specs.Terms.{Lit, Head, lit, var, lambda, foreign, apply, future, ite, fix, nil, cons, isnil, zip, tuple, project, lproject, bind, arity, code}
-use Rattle.meaning.specs.Typing.{Tys, ⟨⟩, _▹_, list, litBase, baseNo, isBase, whenList, whenTuple, whenFun, whenMore, sameSide, sameParams, given, maskedOk, zippedOk, ruleOk}
+use Rattle.meaning.specs.Types.{Base, Truth, Side, ntv, frn, Param, Form, types, params, formNo, result, parts, formOf, Ctx, place, sameNumbers}
+use Rattle.meaning.specs.Terms.{Lit, lit, lambda, foreign, apply, ite, fix, nil, cons, isnil, zip, tuple, project, lproject}
+use Rattle.meaning.specs.Typing.{Tys, ⟨⟩, _▹_, list, litBase, baseNo, isBase, whenList, whenTuple, whenFun, whenMore, sameSide, sameParams, given, zippedOk, ruleOk}
 use Rattle.typing.specs.Forms.{says, forms, partTypes, isFunction}
 use Rattle.typing.proofs.ByForm.{base-row, list-row, tuple-row, fun-row, params-row}
 

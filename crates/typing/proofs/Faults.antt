@@ -1,19 +1,19 @@
 -- The first row that fails typing, as a walk from row to row finds it. Assumes nothing.
-use mathlib.Core.Path.{_≡_, refl, ap, sym, _∙_, subst}
-use mathlib.Core.Logic.{_⊎_, inl, inr, ⊎-elim}
-use mathlib.Core.Bool.{Bool, true, false}
-use mathlib.Core.List.{List, [], _∷_}
+use mathlib.Core.Path.{_≡_, refl, ap, sym, _∙_}
+use mathlib.Core.Logic.{⊎-elim}
+use mathlib.Core.Bool.{true, false}
+use mathlib.Core.List.{List, []}
 use mathlib.Core.Option.{Option, none, some}
-use Prim.Native.Nat.{ℕ, zero, suc, _+_, _-_, _≤_, _<_}
+use Prim.Native.Nat.{ℕ, zero, suc, _+_, _≤_, _<_}
 use native.Mathlib.Omega.{arith}
 use native.Mathlib.Numerals.{add-one}
 use native.Mathlib.Nat.{add-zero, zero-add, add-suc}
-use lib.ListN.{length, drop, getD, set, length-set}
+use lib.ListN.{length, getD, set, length-set}
 use native.Mathlib.Decide.{decLt, ℕ-discrete}
 use lib.Seq.{getD-set-same, getD-set-other, set-out}
-use Rattle.meaning.specs.Types.{Form, Param, params, find, Ctx, empty, pick, _⹁_}
-use Rattle.meaning.specs.Terms.{Head, arity, Tree, Forest, node, end, more, Row, size, sizes, kids, treeAt, grove}
-use Rattle.meaning.specs.Typing.{Tys, tys, scope, stop, later, before, rowOk, firstBad, firstBads}
+use Rattle.meaning.specs.Types.{Form, Param, find, Ctx, empty, pick, _⹁_}
+use Rattle.meaning.specs.Terms.{arity, Tree, Forest, node, Row, size, sizes, kids, treeAt, grove}
+use Rattle.meaning.specs.Typing.{tys, scope, stop, later, before, rowOk, firstBad, firstBads}
 use Rattle.meaning.proofs.Parse.{grove-more, tree-row}
 use Rattle.typing.specs.Scope.{binds, chain, around, walk, handOn, Low, Inner}
 

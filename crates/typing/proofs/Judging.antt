@@ -1,19 +1,18 @@
 -- The rule of a row, kind by kind, as code asks it. Assumes nothing.
-use Prim.Native.Nat.{ℕ, zero, suc, _+_, _-_, _*_, _<_, _≤_}
+use Prim.Native.Nat.{ℕ, zero, suc, _+_, _*_, _<_, _≤_}
 use mathlib.Core.Path.{_≡_, refl, ap, sym, _∙_, subst}
-use mathlib.Core.Logic.{_⊎_, inl, inr}
-use mathlib.Core.Bool.{Bool, true, false, cond}
+use mathlib.Core.Logic.{inl, inr}
+use mathlib.Core.Bool.{Bool}
 use mathlib.Core.List.{List, [], _∷_}
-use mathlib.Core.Option.{Option, none, some}
 use native.Mathlib.Omega.{arith}
 use native.Mathlib.Numerals.{add-one}
 use native.Mathlib.Decide.{decLt, ℕ-discrete}
 use lib.Dec.{eqb}
-use borrow.Author.Tests.{eq-eqb, ne-eqb}
-use lib.ListN.{length, getD, drop}
+use borrow.Author.Tests.{ne-eqb}
+use lib.ListN.{drop}
 use Rattle.meaning.specs.Bytes.{_∧ᵇ_, read, termRow}
 use Rattle.meaning.specs.Types.{Form, formNo, result, Ctx, empty, sameNumbers}
-use Rattle.meaning.specs.Terms.{Head, apply, tuple, fix, var, bind, lambda, arity, Forest, Row, tyOf, is, code, headFrom, rowOf, size, sizes, kids, treeAt, grove}
+use Rattle.meaning.specs.Terms.{apply, fix, var, arity, Forest, Row, tyOf, is, code, headFrom, rowOf, size, sizes, treeAt, grove}
 use Rattle.meaning.specs.Typing.{Tys, ⟨⟩, _▹_, list, tys, scope, firstIs, belowOk, given, ruleOk, rowOk}
 use Rattle.meaning.proofs.Parse.{grove-more}
 use Rattle.terms.specs.Tables.{Closed, Ends}

@@ -1,14 +1,14 @@
 -- The fields of a type by the numbers of its row. Assumes nothing.
 use Prim.Native.Nat.{ℕ, zero, suc, _+_, _*_, _<_, _≤_, min}
-use mathlib.Core.Path.{_≡_, refl, ap, sym, _∙_}
+use mathlib.Core.Path.{_≡_, refl, ap, _∙_}
 use mathlib.Core.List.{List, [], _∷_}
 use native.Mathlib.Omega.{arith}
 use native.Mathlib.Decide.{decLt}
 use lib.ListN.{length, getD, take, drop, length-take, List·getD-eq-default}
-use lib.Seq.{getD-drop, getD-take}
+use lib.Seq.{getD-drop}
 use Rattle.layout.proofs.Laws.{rows-length, type-rows-at}
 use Rattle.meaning.specs.Bytes.{read, reads, typeRow}
-use Rattle.meaning.specs.Types.{Param, names, types, pairs, formNo, partsNo, result, parts}
+use Rattle.meaning.specs.Types.{Param, names, types, pairs, partsNo, parts}
 use Rattle.typing.specs.Forms.{says, partTypes}
 
 pub says-in : (s : List ℕ) (base count t : ℕ) → t < count → says s base count t ≡ read typeRow (drop (base + 36 * t) s)

@@ -1,14 +1,14 @@
 -- One row of the walk, and its start. Assumes nothing.
 use Prim.Native.Nat.{ℕ, zero, suc, _+_, _-_, _*_, _<_, _≤_}
 use mathlib.Core.Path.{_≡_, refl, ap, sym, _∙_, subst}
-use mathlib.Core.Bool.{Bool, true, false}
+use mathlib.Core.Bool.{true, false}
 use mathlib.Core.List.{List, [], _∷_}
-use mathlib.Core.Option.{Option, none, some}
+use mathlib.Core.Option.{some}
 use native.Mathlib.Omega.{arith}
-use lib.ListN.{length, getD, drop, replicate, getD-replicate, length-replicate, List·getD-eq-default}
+use lib.ListN.{length, getD, drop, replicate}
 use Rattle.meaning.specs.Bytes.{number, read, termRow}
-use Rattle.meaning.specs.Types.{Form, Ctx}
-use Rattle.meaning.specs.Terms.{arity, Row, kindNo, headFrom, rowOf, sizes, treeAt, grove}
+use Rattle.meaning.specs.Types.{Form}
+use Rattle.meaning.specs.Terms.{arity, Row, headFrom, rowOf, treeAt, grove}
 use Rattle.meaning.specs.Typing.{tys}
 use Rattle.terms.specs.Tables.{Closed}
 use Rattle.terms.proofs.Scan.{row-in}

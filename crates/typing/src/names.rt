@@ -2,11 +2,11 @@
 use crate::forms;
 use crate::stated;
 ghost use mathlib.Core.Path.{_≡_};
-ghost use Prim.Native.Nat.{ℕ, _+_, _*_, _≤_, _<_};
-ghost use lib.ListN.{length, getD};
+ghost use Prim.Native.Nat.{_+_, _*_, _≤_, _<_};
+ghost use lib.ListN.{length};
 ghost use Rattle.meaning.specs.Types.{find, params};
 ghost use Rattle.meaning.specs.Terms.{treeAt};
-ghost use Rattle.typing.specs.Forms.{says, forms, termRows};
+ghost use Rattle.typing.specs.Forms.{forms, termRows};
 ghost use Rattle.typing.specs.Scope.{binds, chain, Low};
 ghost use Rattle.typing.specs.Named.{named};
 

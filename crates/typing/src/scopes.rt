@@ -5,7 +5,7 @@ use crate::names::Named;
 use crate::rules;
 use crate::stated;
 ghost use mathlib.Core.Path.{_≡_};
-ghost use Prim.Native.Nat.{ℕ, suc, _+_, _*_, _≤_, _<_};
+ghost use Prim.Native.Nat.{_+_, _*_, _≤_, _<_};
 ghost use lib.ListN.{length, getD, drop};
 ghost use Rattle.meaning.specs.Bytes.{read, termRow};
 ghost use Rattle.meaning.specs.Types.{empty};

@@ -4,7 +4,7 @@ use crate::rules;
 use layout::Row;
 ghost use mathlib.Core.Path.{_≡_};
 ghost use Prim.Native.Nat.{_+_, _*_, _≤_, _<_};
-ghost use lib.ListN.{length, getD};
+ghost use lib.ListN.{length};
 ghost use Rattle.layout.specs.Rows.{numbers};
 ghost use Rattle.terms.specs.Tables.{Ends};
 ghost use Rattle.meaning.specs.Types.{sameNumbers, empty};
