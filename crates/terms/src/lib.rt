@@ -9,7 +9,7 @@ ghost use Prim.Native.Nat.{_+_, _*_, _≤_};
 ghost use lib.ListN.{length, drop, getD};
 ghost use Rattle.layout.specs.Rows.{numbers};
 ghost use Rattle.meaning.specs.Bytes.{reads, termRow};
-ghost use Rattle.meaning.specs.Terms.{arity, rowOf, rowFault, shape, lastKind, any-word, a-number, an-n, none-used, kindFields};
+ghost use Rattle.meaning.specs.Terms.{arity, rowOf, size, treeAt, rowFault, shape, lastKind, any-word, a-number, an-n, none-used, kindFields};
 ghost use Rattle.terms.specs.Tables.{faultOf, fields, hop, HopsIn, Closed, Ends};
 
 // Whether a row's kind, fields and type number are in range.
@@ -174,6 +174,20 @@ pub fn check_shape(bytes: &[u8], base: usize, rows: usize, count: u16, edition: 
     } else {
         Shape::Bad(Fault::Unfinished, i as u32)
     }
+}
+
+// The row behind the tree at row `at`, by a running count of the trees still owed.
+pub fn end_of(bytes: &[u8], base: usize, rows: usize, at: usize) -> usize
+    requires { ⌜ (base + 8 * rows ≤ length (now bytes)) × (rows ≤ 4096) × (at + size (treeAt (map rowOf (reads termRow rows (drop base (now bytes)))) at) ≤ rows) ⌝ }
+    ensures { λ r. ⌜ r ≡ at + size (treeAt (map rowOf (reads termRow rows (drop base (now (bytes .entry))))) at) ⌝ }
+{
+    let mut owed: usize = 1;
+    let mut i = at;
+    while 0 < owed {
+        owed = owed - 1 + children(layout::row_at(bytes, base, i));
+        i += 1;
+    }
+    i
 }
 
 fn wide(x: u16) -> usize
