@@ -112,19 +112,20 @@ unfoldable pub become : Option Tree → Out
 become none = stay
 become (some t) = go none t
 
--- "when the child is true or false"
+-- "when the child is true or false"; the paper's 38, 39
 unfoldable pub ifStep : Tree → Tree → Tree → Out
 ifStep c a b = cond (is 3 c) (go none a) (cond (is 4 c) (go none b) stay)
 
--- "nil or cons", "elements unevaluated"
+-- "nil or cons", "elements unevaluated"; the paper's 41, 42
 unfoldable pub isnilStep : ℕ → Tree → Out
 isnilStep u c = cond (is 12 c) (go none (node (lit (truth true)) u end)) (cond (is 13 c) (go none (node (lit (truth false)) u end)) stay)
 
--- "a tuple"
+-- "a tuple"; the paper's 45
 unfoldable pub projectStep : ℕ → Tree → Out
 projectStep i c = cond (is 16 c) (become (child i c)) stay
 
--- "Apply of a foreign function: all arguments values, then the whole becomes a future with the next number and a call is sent"
+-- "Apply of a foreign function: all arguments values, then the whole becomes a future with the next number and a call is sent";
+-- the paper's 37
 unfoldable pub sendStep : {n : ℕ} → ℕ → ℕ → Tree → Forest n → Out
 sendStep k u c args =
     cond (values args) (go (some (record { tool = wordOf (headOf c); rows = flats args; result = u })) (node (future k) u end)) stay
@@ -146,7 +147,7 @@ kidsAt i m end = end
 kidsAt i m (more t f) = more (cond (low m) (kid i t) t) (kidsAt i (rest m) f)
 
 module _ (form : ℕ → Form) where
-  -- "List project of a cons gives a cons of the projected head and the list-projected tail"
+  -- "List project of a cons gives a cons of the projected head and the list-projected tail"; the paper's 46, 47
   unfoldable pub lprojectStep : ℕ → ℕ → Tree → Out
   lprojectStep i u c =
       cond (is 12 c) (go none (node nil u end))
@@ -154,7 +155,7 @@ module _ (form : ℕ → Form) where
       (go none (node cons u (more (node (project i) (elemOf (form u)) (more (kid 1 c) end)) (more (node (lproject i) u (more (kid 2 c) end)) end))))
       stay)
 
-  -- "Fix of a function: the function of the remaining arguments, the first name replaced in its body by the fix term"
+  -- "Fix of a function: the function of the remaining arguments, the first name replaced in its body by the fix term"; the paper's 40
   unfoldable pub tie : ℕ → Tree → List Param → Out
   tie u c [] = stay
   tie u c (p ∷ ps) = go none (node lambda u (more (put form (assign (p ∷ []) (more (node fix u (more c end)) end)) (kid 1 c)) end))
@@ -163,7 +164,7 @@ module _ (form : ℕ → Form) where
   fixStep u c = cond (is 6 c) (tie u c (params (form (tyOf c)))) stay
 
   -- "When all are nil or cons: any nil gives nil; otherwise a cons of the inner function on the heads and the same zip on the
-  -- tails, other arguments in both"
+  -- tails, other arguments in both"; house in place of the paper's 43, its 44
   unfoldable pub zipCons : {n : ℕ} → ℕ → ℕ → Tree → Forest n → Tree
   zipCons {n} u m c args =
       node cons u (more (node (apply n) (elemOf (form u)) (more (kid 1 c) (kidsAt 1 m args))) (more (node (apply n) u (more c (kidsAt 2 m args))) end))
@@ -171,12 +172,14 @@ module _ (form : ℕ → Form) where
   unfoldable pub zipStep : {n : ℕ} → ℕ → ℕ → Tree → Forest n → Out
   zipStep u m c args = cond (ready m args) (cond (anyNil m args) (go none (node nil u end)) (go none (zipCons u m c args))) stay
 
+  -- the paper's 35, 36 (all arguments at once), 37, 44
   unfoldable pub applyStep : {n : ℕ} → ℕ → ℕ → Tree → Forest n → Out
   applyStep k u c args =
       cond (is 6 c) (go none (put form (assign (params (form (tyOf c))) args) (kid 1 c)))
       (cond (is 7 c) (sendStep k u c args)
       (cond (is 15 c) (zipStep u (nOf (headOf c)) c args) stay))
 
+  -- the paper's 48
   unfoldable pub letStep : ℕ → Tree → Tree → Out
   letStep x a b = go none (put form (assign (record { name = x; type = tyOf a } ∷ []) (more a end)) b)
 
@@ -231,13 +234,15 @@ unready m end i = false
 unready m (more t f) zero = low m ∧ᵇ not (isList t)
 unready m (more t f) (suc i) = unready (rest m) f i
 
--- of an application, by its function: "else the first argument that can step does"; "Apply of anything else: its function steps"
+-- of an application, by its function: "else the first argument that can step does"; "Apply of anything else: its function steps"; the
+-- paper's 49, 50
 unfoldable pub applyLooks : {n : ℕ} → Tree → Forest n → Places
 applyLooks c args =
     cond (is 6 c) nowhere
     (cond (is 7 c) (behind everywhere)
     (cond (is 15 c) (behind (unready (nOf (headOf c)) args)) first))
 
+-- the paper's congruence rules 51 to 57, house for zip
 unfoldable pub looks : (h : Head) → Forest (arity h) → Places
 looks (lit l) f = nowhere
 looks (var x) f = nowhere
