@@ -9,7 +9,7 @@ use lib.ListN.{length, getD, take, drop, set, replicate, length-drop, length-rep
 use lib.Seq.{drop-drop, getD-drop, take-all, paste, paste-suc, sets, sets-eq}
 use Rattle.meaning.specs.Bytes.{Layout, number, spell, width, read, write, reads, typeRow, termRow, recordHead}
 use Rattle.meaning.specs.Records.{recordMark}
-use Rattle.meaning.proofs.Layouts.{number-at, length-reads, reads-at}
+use Rattle.meaning.proofs.Bytes.Layouts.{number-at, length-reads, reads-at}
 use Rattle.meaning.specs.Types.{formNo, partsNo, result}
 use Rattle.meaning.specs.Terms.{kindNo, nNo, typeNo, wordNo}
 use Rattle.layout.specs.declared.Row.{Row}

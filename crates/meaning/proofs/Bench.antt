@@ -19,13 +19,13 @@ use Rattle.meaning.specs.Records.{State}
 use Rattle.meaning.specs.Entries.{RunOut, Replied}
 use Rattle.meaning.specs.Types.{Form}
 use Rattle.meaning.specs.Steps.{Out, stay, go}
-use Rattle.meaning.proofs.Tests.{left, right}
-use Rattle.meaning.proofs.Layouts.{AllBytes, bytes-nil, bytes-cons}
-use Rattle.meaning.proofs.Sound.{Good, arm-small, state-record}
-use Rattle.meaning.proofs.Letters.{fileNumbers, fileOf, file-bytes, sheet, replyOf, loaded-good}
-use Rattle.meaning.proofs.Running.{run-keeps}
-use Rattle.meaning.proofs.Stays.{arm-board, step-stays, reply-stays}
-use Rattle.meaning.proofs.Entered.{load-writes, run-good, reply-good}
+use Rattle.meaning.proofs.Trees.Tests.{left, right}
+use Rattle.meaning.proofs.Bytes.Layouts.{AllBytes, bytes-nil, bytes-cons}
+use Rattle.meaning.proofs.Bytes.Records.{Good, arm-small, state-record}
+use Rattle.meaning.proofs.Bytes.Files.{fileNumbers, fileOf, file-bytes, sheet, replyOf, loaded-good}
+use Rattle.meaning.proofs.Entries.Running.{run-keeps}
+use Rattle.meaning.proofs.Entries.GoodStays.{arm-board, step-stays, reply-stays}
+use Rattle.meaning.proofs.Entries.OnGoodStates.{load-writes, run-good, reply-good}
 use Rattle.meaning.specs.Terms.{Lit, str, truth, Head, lit, var, lambda, foreign, apply, future, ite, fix, nil, cons, isnil, zip, tuple, project, lproject, bind, Tree, Forest, node, end, more}
 use Rattle.meaning.specs.declared.Refusal.the-variants.{NotOpen, ReplyTyping, Size}
 use Rattle.meaning.specs.declared.Verdict.{Verdict}

@@ -10,9 +10,9 @@ use Rattle.meaning.specs.Terms.{tyOf, flat, size, typeNo, raw, rowOf, trees, to
 use Rattle.meaning.specs.Records.{recordMark, headNumbers, recordOf}
 use Rattle.meaning.specs.Entries.{fileTypeCount, fileRowCount, fileTypes, fileRows, fileTree, loadVerdict, loadedState}
 use Rattle.meaning.specs.declared.Verdict.the-variants.{Accepted}
-use Rattle.meaning.proofs.Layouts.{AllBytes, bytes-drop, padded-length, length-write, writes-reads, length-reads, reads-wide}
-use Rattle.meaning.proofs.Shapes.{shape-whole}
-use Rattle.meaning.proofs.Loading.{accepted-legal}
+use Rattle.meaning.proofs.Bytes.Layouts.{AllBytes, bytes-drop, padded-length, length-write, writes-reads, length-reads, reads-wide}
+use Rattle.meaning.proofs.Bytes.RowTables.{shape-whole}
+use Rattle.meaning.proofs.Entries.Loading.{accepted-legal}
 use Rattle.layout.proofs.Laws.{term-row, term-rows-at}
 
 -- Lists of zeros with parts put in -------------------------------------------------------------------------------

@@ -22,7 +22,7 @@ use Rattle.meaning.specs.declared.Refusal.{Refusal}
 use Rattle.meaning.specs.declared.Refusal.the-variants.{Length, Size, Mark, Version, Count, TypeRow, Row, Future, Typing}
 use Rattle.meaning.specs.declared.Verdict.{Verdict}
 use Rattle.meaning.specs.declared.Verdict.the-variants.{Accepted, Refused}
-use Rattle.meaning.proofs.Tests.{left, right, within-if}
+use Rattle.meaning.proofs.Trees.Tests.{left, right, within-if}
 use Rattle.tca.specs.Loads.{marked, countsOk}
 
 -- The header's tests ---------------------------------------------------------------------------------------------

@@ -15,7 +15,7 @@ use Rattle.meaning.specs.declared.Fault.{Fault}
 use Rattle.meaning.specs.declared.Fault.the-variants.{Behind, Unfinished}
 use Rattle.meaning.specs.declared.Shape.{Shape}
 use Rattle.meaning.specs.declared.Shape.the-variants.{Whole, Bad}
-use Rattle.meaning.proofs.Parse.{sizes-split, grove-more, tree-row}
+use Rattle.meaning.proofs.Trees.Parse.{sizes-split, grove-more, tree-row}
 use Rattle.terms.specs.Tables.{Closed, hop, HopsIn}
 
 -- Shape ----------------------------------------------------------------------------------------------------------

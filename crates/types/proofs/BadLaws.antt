@@ -14,8 +14,8 @@ use lib.ListN.{length, take, drop, getD, replicate, drop-of-length-le}
 use lib.Seq.{drop-cons, take-suc, length-take-le}
 use Rattle.meaning.specs.Bytes.{_∧ᵇ_, within, zeros, Layout, width, reads}
 use Rattle.meaning.specs.Types.{Form, formNo, partsNo, result, parts, types, names, formOf, every, below, groundForm, ground, lastForm, fieldsOk, fresh, groundCall, typeOk, badTypeFrom, badType}
-use Rattle.meaning.proofs.Tests.{left, right}
-use Rattle.meaning.proofs.Tables.{ground-below}
+use Rattle.meaning.proofs.Trees.Tests.{left, right}
+use Rattle.meaning.proofs.Bytes.TypeTables.{ground-below}
 use Rattle.types.specs.Table.{table, functionOk, namesOk, partsGround, Truthful}
 use Rattle.types.proofs.Laws.{form-row, form-absent}
 use Rattle.types.proofs.Checks.{fields-function}

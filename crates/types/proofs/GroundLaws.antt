@@ -13,7 +13,7 @@ use lib.ListN.{length, drop, getD, set, drop-of-length-le}
 use lib.Seq.{drop-cons, getD-set-same, getD-set-other, set-out}
 use Rattle.meaning.specs.Bytes.{_∧ᵇ_}
 use Rattle.meaning.specs.Types.{Form, types, formNo, result, parts, formRow, every, groundForm, ground}
-use Rattle.meaning.proofs.Tables.{ground-eq}
+use Rattle.meaning.proofs.Bytes.TypeTables.{ground-eq}
 use Rattle.types.specs.Table.{mark, Truthful, Told}
 use Rattle.types.proofs.Laws.{row-none, row-str, row-file, row-truth, row-list, row-tuple, row-native, row-foreign, row-beyond}
 

@@ -16,7 +16,7 @@ use Rattle.meaning.specs.Bytes.{_∧ᵇ_, read, reads, termRow}
 use Rattle.meaning.specs.Types.{Form, Param, params, find, Ctx, empty, pick, _⹁_, sameNumbers}
 use Rattle.meaning.specs.Terms.{str, Head, lit, var, lambda, foreign, apply, future, ite, fix, nil, cons, isnil, zip, tuple, project, lproject, bind, arity, Forest, node, Row, headOf, tyOf, is, code, headFrom, rowOf, size, sizes, blank, kids, trees, top, treeAt, grove}
 use Rattle.meaning.specs.Typing.{Tys, ⟨⟩, _▹_, list, tys, scope, ruleOk}
-use Rattle.meaning.proofs.Parse.{grove-more}
+use Rattle.meaning.proofs.Trees.Parse.{grove-more}
 use Rattle.terms.specs.Tables.{Ends}
 use Rattle.terms.proofs.ByKind.{below, head-other}
 use Rattle.terms.proofs.Scan.{tree-here, size-some, grove-size}

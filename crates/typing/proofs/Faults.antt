@@ -14,7 +14,7 @@ use lib.Seq.{getD-set-same, getD-set-other, set-out}
 use Rattle.meaning.specs.Types.{Form, Param, find, Ctx, empty, pick, _⹁_}
 use Rattle.meaning.specs.Terms.{arity, Tree, Forest, node, Row, size, sizes, kids, treeAt, grove}
 use Rattle.meaning.specs.Typing.{tys, scope, stop, later, before, rowOk, firstBad, firstBads}
-use Rattle.meaning.proofs.Parse.{grove-more, tree-row}
+use Rattle.meaning.proofs.Trees.Parse.{grove-more, tree-row}
 use Rattle.typing.specs.Scope.{binds, chain, around, walk, handOn, Low, Inner}
 
 later-add : (a b : ℕ) (o : Option ℕ) → later a (later b o) ≡ later (a + b) o

@@ -14,7 +14,7 @@ use Rattle.meaning.specs.Bytes.{_∧ᵇ_, read, termRow}
 use Rattle.meaning.specs.Types.{Form, formNo, result, Ctx, empty, sameNumbers}
 use Rattle.meaning.specs.Terms.{apply, fix, var, arity, Forest, Row, tyOf, is, code, headFrom, rowOf, size, sizes, treeAt, grove}
 use Rattle.meaning.specs.Typing.{Tys, ⟨⟩, _▹_, list, tys, scope, firstIs, belowOk, given, ruleOk, rowOk}
-use Rattle.meaning.proofs.Parse.{grove-more}
+use Rattle.meaning.proofs.Trees.Parse.{grove-more}
 use Rattle.terms.specs.Tables.{Closed, Ends}
 use Rattle.terms.proofs.ByKind.{arity-few}
 use Rattle.terms.proofs.Scan.{size-here, size-some, grove-size}

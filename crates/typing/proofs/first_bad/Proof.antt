@@ -3,7 +3,7 @@ use mathlib.Core.Path.{refl, ap, _∙_}
 use lib.ListN.{replicate}
 use Rattle.meaning.specs.Types.{empty}
 use Rattle.meaning.specs.Typing.{firstBad}
-use Rattle.meaning.proofs.Parse.{tree-at-zero}
+use Rattle.meaning.proofs.Trees.Parse.{tree-at-zero}
 use Rattle.typing.specs.Forms.{forms, termRows}
 use Rattle.typing.proofs.Faults.{walk-all}
 use Rattle.typing.proofs.Walking.{zeros-low}

@@ -7,7 +7,7 @@ use Rattle.meaning.specs.Types.{Param, Form, params, Ctx, pick, find, _�
 use Rattle.meaning.specs.Terms.{Head, lit, var, lambda, foreign, apply, future, ite, fix, nil, cons, isnil, zip, tuple, project, lproject, bind, arity, code, is, headOf, Tree, Forest, node, end, more, tyOf}
 use Rattle.meaning.specs.Typing.{list, tys, firstIs, belowOk, Rule, scope, Typed, TypedF}
 use Rattle.meaning.specs.Paper.{Has, HasAll, rLit, rVar, rNative, rForeign, rApply, rFuture, rIf, rFix, rNil, rCons, rIsnil, rZip, rTuple, rProject, rLproject, rLet, rEnd, rMore}
-use Rattle.meaning.proofs.Views.{lambda-is, below-lit}
+use Rattle.meaning.proofs.Trees.ByKind.{lambda-is, below-lit}
 
 module _ (form : ℕ → Form) where
   abbrev none-bound : ℕ → List Param

@@ -8,7 +8,7 @@ use lib.ListN.{length, take, drop, getD, replicate, length-append, length-drop, 
 use lib.Seq.{length-take-le, drop-cons, drop-drop, take-add, getD-drop, drop-at}
 use borrow.Author.Tests.{eqb-true}
 use Rattle.meaning.specs.Bytes.{zeros, number, spell, Layout, width, read, write, reads, writes, padded}
-use Rattle.meaning.proofs.Tests.{both, left, right, eq-same}
+use Rattle.meaning.proofs.Trees.Tests.{both, left, right, eq-same}
 
 abbrev pub AllBytes : List ℕ → Type 0
 AllBytes s = (i : ℕ) → getD s i 0 < 256

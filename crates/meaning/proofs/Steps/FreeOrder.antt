@@ -9,7 +9,7 @@ use Rattle.meaning.specs.Types.{Form, low, rest}
 use Rattle.meaning.specs.Terms.{Head, lit, var, lambda, foreign, apply, future, ite, fix, nil, cons, isnil, zip, tuple, project, lproject, bind, arity, code, nOf, Tree, Forest, node, end, more, headOf, is}
 use Rattle.meaning.specs.Typing.{Tys, scope}
 use Rattle.meaning.specs.Steps.{_∨ᵇ_, Call, Out, stay, go, isList, contract, Places, nowhere, everywhere, first, unless, behind, unready, applyLooks, looks, Outs, stays, goes, orElse, wrap, tailGoes, headGoes, visit, step, steps}
-use Rattle.meaning.proofs.Tests.{left}
+use Rattle.meaning.proofs.Trees.Tests.{left}
 
 -- the places of a mask
 unfoldable pub masked : ℕ → Places

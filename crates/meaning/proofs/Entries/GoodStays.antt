@@ -17,20 +17,20 @@ use Rattle.meaning.specs.Records.{State, listed}
 use Rattle.meaning.specs.Entries.{stepped, sent, without, replyNumber, replyTree, repliedState, replyVerdict}
 use Rattle.meaning.specs.declared.Verdict.{Verdict}
 use Rattle.meaning.specs.declared.Verdict.the-variants.{Accepted, Refused}
-use Rattle.meaning.proofs.Tests.{none-some}
-use Rattle.meaning.proofs.Facts.{Fact, Every, Everys, Due, Listed, every-rows, rows-every, all-rows-map}
-use Rattle.meaning.proofs.Layouts.{Each}
-use Rattle.meaning.proofs.Shapes.{legal}
-use Rattle.meaning.proofs.Tables.{Promises, promised}
-use Rattle.meaning.proofs.Puts.{settle-typed, due-is}
-use Rattle.meaning.proofs.Safety.{preservation}
-use Rattle.meaning.proofs.Sound.{Small, arm-small, Good}
-use Rattle.meaning.proofs.Ground.{Plain}
-use Rattle.meaning.proofs.Sends.{sent-type}
-use Rattle.meaning.proofs.Kept.{Parts, legal-step, listed-step}
-use Rattle.meaning.proofs.Running.{stepOf, MaySend, behind, Passes}
-use Rattle.meaning.proofs.Calls.{each-append, each-more, Below, rises-with, listed-with, listed-new, length-with, each-without, length-without, rises-without, listed-without, listed-fact}
-use Rattle.meaning.proofs.Replying.{OneTree, reply-tree, Answers, accepted-reply, plain-reply}
+use Rattle.meaning.proofs.Trees.Tests.{none-some}
+use Rattle.meaning.proofs.Trees.EachRow.{Fact, Every, Everys, Due, Listed, every-rows, rows-every, all-rows-map}
+use Rattle.meaning.proofs.Bytes.Layouts.{Each}
+use Rattle.meaning.proofs.Bytes.RowTables.{legal}
+use Rattle.meaning.proofs.Bytes.TypeTables.{Promises, promised}
+use Rattle.meaning.proofs.Typing.Putting.{settle-typed, due-is}
+use Rattle.meaning.proofs.Steps.Preservation.{preservation}
+use Rattle.meaning.proofs.Bytes.Records.{Small, arm-small, Good}
+use Rattle.meaning.proofs.Typing.GroundValues.{Plain}
+use Rattle.meaning.proofs.Steps.Sends.{sent-type}
+use Rattle.meaning.proofs.Steps.EachRowKept.{Parts, legal-step, listed-step}
+use Rattle.meaning.proofs.Entries.Running.{stepOf, MaySend, behind, Passes}
+use Rattle.meaning.proofs.Entries.OpenList.{each-append, each-more, Below, rises-with, listed-with, listed-new, length-with, each-without, length-without, rises-without, listed-without, listed-fact}
+use Rattle.meaning.proofs.Entries.Replying.{OneTree, reply-tree, Answers, accepted-reply, plain-reply}
 
 -- what a reply settles: a row that stays keeps what is known of it, and the value put brings its own
 module _ (P Q : Fact) (k : ℕ) (v : Tree) (keeps : (h : Head) (u : ℕ) → due k v h ≡ none → P h u → Q h u) (new : Every Q v) where

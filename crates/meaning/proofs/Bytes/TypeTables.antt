@@ -13,8 +13,8 @@ use lib.Seq.{append-snoc, length-take-le, getD-take}
 use Rattle.meaning.specs.Bytes.{_∧ᵇ_}
 use Rattle.meaning.specs.Types.{Base, Str, File, Truth, Side, ntv, frn, Param, Form, absent, base, fList, fTuple, fFun, types, names, formNo, partsNo, result, parts, formRow, formOf, every, groundForm, groundBelow, ground, lastForm, distinct, below, nonzero, fieldsOk, fresh, groundCall, typeOk, badTypeFrom, badType, sameNumbers}
 use Rattle.meaning.specs.Records.{version}
-use Rattle.meaning.proofs.Tests.{left, right, both, within-if, numbers-same, none-some}
-use Rattle.meaning.proofs.Shapes.{passes, Below, start, _▸_, below-at}
+use Rattle.meaning.proofs.Trees.Tests.{left, right, both, within-if, numbers-same, none-some}
+use Rattle.meaning.proofs.Bytes.RowTables.{passes, Below, start, _▸_, below-at}
 
 -- Ground ---------------------------------------------------------------------------------------------------------
 

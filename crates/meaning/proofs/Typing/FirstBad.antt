@@ -13,7 +13,7 @@ use Rattle.meaning.specs.Bytes.{_∧ᵇ_}
 use Rattle.meaning.specs.Types.{Base, Str, File, Truth, Side, ntv, frn, Param, Form, absent, base, fList, fTuple, fFun, types, Ctx, _⹁_, rest}
 use Rattle.meaning.specs.Terms.{Head, lit, var, lambda, foreign, apply, future, ite, fix, nil, cons, isnil, zip, tuple, project, lproject, bind, arity, Tree, Forest, node, end, more, size, sizes}
 use Rattle.meaning.specs.Typing.{Tys, ⟨⟩, _▹_, tys, litBase, baseNo, isBase, whenList, whenTuple, whenFun, whenMore, sameSide, sameParams, given, stop, before, later, Masked, Zipped, Rule, scope, Typed, TypedF, maskedOk, zippedOk, ruleOk, rowOk, firstBad, firstBads}
-use Rattle.meaning.proofs.Tests.{both, left, right, eq-same, numbers-is, numbers-same, none-some}
+use Rattle.meaning.proofs.Trees.Tests.{both, left, right, eq-same, numbers-is, numbers-same, none-some}
 
 -- Tests on forms -------------------------------------------------------------------------------------------------
 

@@ -20,12 +20,12 @@ use Rattle.meaning.specs.declared.Verdict.the-variants.{Accepted, Refuse
 use Rattle.meaning.specs.declared.Answer.{Answer}
 use Rattle.meaning.specs.declared.Run.{Run}
 use Rattle.meaning.specs.declared.Run.the-variants.{Ran, Rejected}
-use Rattle.meaning.proofs.Tests.{both, left, right}
-use Rattle.meaning.proofs.Layouts.{AllBytes}
-use Rattle.meaning.proofs.Sound.{Small, Good, good-state, state-record}
-use Rattle.meaning.proofs.Running.{Ends, run-makes, run-ends, run-within, run-keeps}
-use Rattle.meaning.proofs.Replying.{Answers, takes}
-use Rattle.meaning.proofs.Stays.{Board, step-stays}
+use Rattle.meaning.proofs.Trees.Tests.{both, left, right}
+use Rattle.meaning.proofs.Bytes.Layouts.{AllBytes}
+use Rattle.meaning.proofs.Bytes.Records.{Small, Good, good-state, state-record}
+use Rattle.meaning.proofs.Entries.Running.{Ends, run-makes, run-ends, run-within, run-keeps}
+use Rattle.meaning.proofs.Entries.Replying.{Answers, takes}
+use Rattle.meaning.proofs.Entries.GoodStays.{Board, step-stays}
 
 -- "Two outcomes that satisfy it are proved equal" ------------------------------------------------------------------
 

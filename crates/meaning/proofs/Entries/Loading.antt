@@ -23,8 +23,8 @@ use Rattle.meaning.specs.declared.Refusal.{Refusal}
 use Rattle.meaning.specs.declared.Refusal.the-variants.{Length, Size, Mark, Version, Count, TypeRow, Row, Future, Typing}
 use Rattle.meaning.specs.declared.Verdict.{Verdict}
 use Rattle.meaning.specs.declared.Verdict.the-variants.{Accepted, Refused}
-use Rattle.meaning.proofs.Tests.{both, left, right, within-if, within-of, numbers-is, numbers-same}
-use Rattle.meaning.proofs.Checks.{checked, typed-if, typed-of}
+use Rattle.meaning.proofs.Trees.Tests.{both, left, right, within-if, within-of, numbers-is, numbers-same}
+use Rattle.meaning.proofs.Typing.FirstBad.{checked, typed-if, typed-of}
 
 -- What an accepting verdict tells of its tests -------------------------------------------------------------------
 

@@ -10,10 +10,10 @@ use Rattle.meaning.specs.Types.{Truth, Side, ntv, frn, Param, Form, base
 use Rattle.meaning.specs.Terms.{Head, lit, var, lambda, foreign, apply, future, ite, fix, nil, cons, isnil, zip, tuple, project, lproject, bind, arity, code, nOf, Tree, Forest, node, end, more, headOf, tyOf, is}
 use Rattle.meaning.specs.Typing.{list, tys, litBase, belowOk, Masked, Zipped, Rule, scope, Typed, TypedF}
 use Rattle.meaning.specs.Steps.{_∨ᵇ_, swap, assign, put, values, Call, Out, stay, go, nth, child, kid, become, ifStep, isnilStep, projectStep, isList, ready, anyNil, kidsAt, lprojectStep, tie, fixStep, sendStep, zipCons, zipStep, applyStep, letStep, contract, Places, step}
-use Rattle.meaning.proofs.Tests.{left, right, neither-l, neither-r, none-some}
-use Rattle.meaning.proofs.Views.{lambda-is, foreign-is, cons-is, zip-is, tuple-is}
-use Rattle.meaning.proofs.Puts.{Fit, Fits, put-typed}
-use Rattle.meaning.proofs.Follows.{Follows, FollowsIn, root, inside, this, that, may-bare, may-fix, step-free}
+use Rattle.meaning.proofs.Trees.Tests.{left, right, neither-l, neither-r, none-some}
+use Rattle.meaning.proofs.Trees.ByKind.{lambda-is, foreign-is, cons-is, zip-is, tuple-is}
+use Rattle.meaning.proofs.Typing.Putting.{Fit, Fits, put-typed}
+use Rattle.meaning.proofs.Steps.FreeOrder.{Follows, FollowsIn, root, inside, this, that, may-bare, may-fix, step-free}
 
 -- no names bound at any place
 abbrev pub bare : ℕ → List Param

@@ -6,7 +6,7 @@ use mathlib.Core.Option.{Option}
 use Rattle.meaning.specs.Types.{Form}
 use Rattle.meaning.specs.Terms.{Head, arity, Tree, Forest, node, Row, flat, flats}
 use Rattle.meaning.specs.Steps.{Call, go, contract, Places, step}
-use Rattle.meaning.proofs.Follows.{Follows, FollowsIn, root, inside, this, that, step-free}
+use Rattle.meaning.proofs.Steps.FreeOrder.{Follows, FollowsIn, root, inside, this, that, step-free}
 
 module _ (form : ℕ → Form) where
   -- rows `ts` become rows `us` by one rule at the row behind `before`

@@ -14,8 +14,8 @@ use Rattle.meaning.specs.declared.Refusal.{Refusal}
 use Rattle.meaning.specs.declared.Refusal.the-variants.{Length, Unsound}
 use Rattle.meaning.specs.declared.Verdict.{Verdict}
 use Rattle.meaning.specs.declared.Verdict.the-variants.{Accepted, Refused}
-use Rattle.meaning.proofs.Tests.{both}
-use Rattle.meaning.proofs.Sound.{Small, Good, record-length, state-record, sound-record}
+use Rattle.meaning.proofs.Trees.Tests.{both}
+use Rattle.meaning.proofs.Bytes.Records.{Small, Good, record-length, state-record, sound-record}
 
 -- Load -----------------------------------------------------------------------------------------------------------
 

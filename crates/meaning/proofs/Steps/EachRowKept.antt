@@ -16,13 +16,13 @@ use Rattle.meaning.specs.Typing.{tys, scope}
 use Rattle.meaning.specs.Steps.{Sub, veil, hide, swap, hit, assign, put, puts, due, settle, settles, values, Call, Out, stay, go, nth, child, kid, become, ifStep, isnilStep, projectStep, ready, anyNil, kidsAt, lprojectStep, tie, fixStep, sendStep, zipCons, zipStep, applyStep, letStep, contract, Places, step}
 use Rattle.meaning.specs.Records.{version}
 use Rattle.meaning.specs.declared.Fault.the-variants.{Kind, Field, Number}
-use Rattle.meaning.proofs.Tests.{within-of, both, none-some}
-use Rattle.meaning.proofs.Shapes.{legal}
-use Rattle.meaning.proofs.Facts.{Fact, Every, Everys, AllRows, every-rows, rows-left, rows-right, Due, Listed}
-use Rattle.meaning.proofs.Puts.{hit-is, due-is}
-use Rattle.meaning.proofs.Follows.{Follows, FollowsIn, root, inside, this, that, step-free}
-use Rattle.meaning.proofs.Changes.{Changed, step-changes}
-use Rattle.meaning.proofs.Sends.{root-sends}
+use Rattle.meaning.proofs.Trees.Tests.{within-of, both, none-some}
+use Rattle.meaning.proofs.Bytes.RowTables.{legal}
+use Rattle.meaning.proofs.Trees.EachRow.{Fact, Every, Everys, AllRows, every-rows, rows-left, rows-right, Due, Listed}
+use Rattle.meaning.proofs.Typing.Putting.{hit-is, due-is}
+use Rattle.meaning.proofs.Steps.FreeOrder.{Follows, FollowsIn, root, inside, this, that, step-free}
+use Rattle.meaning.proofs.Steps.RowsStand.{Changed, step-changes}
+use Rattle.meaning.proofs.Steps.Sends.{root-sends}
 
 unveiled : (o : Option ℕ) (p : Option Tree) (v : Tree) → veil o p ≡ some v → p ≡ some v
 unfolding veil

@@ -11,9 +11,9 @@ use Rattle.meaning.specs.Types.{Param, Form, find, Ctx, empty, pick, _�
 use Rattle.meaning.specs.Terms.{Head, lit, var, lambda, foreign, apply, future, ite, fix, nil, cons, isnil, zip, tuple, project, lproject, bind, arity, code, wordOf, headFrom, Tree, Forest, node, end, more, headOf, tyOf, is}
 use Rattle.meaning.specs.Typing.{Tys, ⟨⟩, _▹_, tys, firstIs, belowOk, Rule, scope, Typed, TypedF}
 use Rattle.meaning.specs.Steps.{Sub, veil, hide, swap, hit, put, puts, due, settle, settles}
-use Rattle.meaning.proofs.Tests.{left, right, none-some}
-use Rattle.meaning.proofs.Facts.{Every, Everys, Due, Listed}
-use Rattle.meaning.proofs.Views.{head-is}
+use Rattle.meaning.proofs.Trees.Tests.{left, right, none-some}
+use Rattle.meaning.proofs.Trees.EachRow.{Every, Everys, Due, Listed}
+use Rattle.meaning.proofs.Trees.ByKind.{head-is}
 
 -- where something is put stands a variable
 pub hit-is : (σ : Sub) (h : Head) (v : Tree) → hit σ h ≡ some v → (h ≡ var (wordOf h)) × (σ (wordOf h) ≡ some v)

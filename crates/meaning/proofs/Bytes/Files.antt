@@ -18,14 +18,14 @@ use Rattle.meaning.specs.Records.{version, rises, listed}
 use Rattle.meaning.specs.Entries.{replyTree, LegalFile, fileNo, fileTypeCount, fileRowCount, fileTypes, fileRows, fileTree, noFuture, loadVerdict, loadedState, replyNo, replyNumber, replyCount, replyRows, replyHeadOk, letterOf}
 use Rattle.meaning.specs.declared.Refusal.the-variants.{Typing}
 use Rattle.meaning.specs.declared.Verdict.the-variants.{Accepted}
-use Rattle.meaning.proofs.Tests.{none-some, both, left, right, eq-same, within-of}
-use Rattle.meaning.proofs.Parse.{length-flat, tree-of-flat}
-use Rattle.meaning.proofs.Checks.{typed-if, typed-of}
-use Rattle.meaning.proofs.Facts.{Every, AllRows, Due, Listed, every-rows, rows-every}
-use Rattle.meaning.proofs.Layouts.{AllBytes, joins, bytes-append, bytes-drop, pow256, Fits, Each, AllFit, length-read, length-write, bytes-write, read-write, write-read, fields-from, length-reads, reads-fit, length-writes, bytes-writes, reads-writes, writes-reads, reads-wide}
-use Rattle.meaning.proofs.Shapes.{legal, future-code, rows-raw, shape-whole, whole-of}
-use Rattle.meaning.proofs.Sound.{Good, none-fails, all-pass, rows-fit, size-some}
-use Rattle.meaning.proofs.Loading.{accepted-legal, legal-verdict, refuse-pass}
+use Rattle.meaning.proofs.Trees.Tests.{none-some, both, left, right, eq-same, within-of}
+use Rattle.meaning.proofs.Trees.Parse.{length-flat, tree-of-flat}
+use Rattle.meaning.proofs.Typing.FirstBad.{typed-if, typed-of}
+use Rattle.meaning.proofs.Trees.EachRow.{Every, AllRows, Due, Listed, every-rows, rows-every}
+use Rattle.meaning.proofs.Bytes.Layouts.{AllBytes, joins, bytes-append, bytes-drop, pow256, Fits, Each, AllFit, length-read, length-write, bytes-write, read-write, write-read, fields-from, length-reads, reads-fit, length-writes, bytes-writes, reads-writes, writes-reads, reads-wide}
+use Rattle.meaning.proofs.Bytes.RowTables.{legal, future-code, rows-raw, shape-whole, whole-of}
+use Rattle.meaning.proofs.Bytes.Records.{Good, none-fails, all-pass, rows-fit, size-some}
+use Rattle.meaning.proofs.Entries.Loading.{accepted-legal, legal-verdict, refuse-pass}
 
 -- Program files --------------------------------------------------------------------------------------------------
 

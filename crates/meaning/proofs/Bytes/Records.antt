@@ -19,13 +19,13 @@ use Rattle.meaning.specs.Steps.{Entry}
 use Rattle.meaning.specs.Records.{State, version, recordMark, rawEntry, headNumbers, recordOf, headNo, typeCount, rowCount, openCount, nextNumber, programType, typesIn, entriesIn, rowsIn, entryOf, stateOf, firstNot, nothing, isWhole, headSound, unused, spaceSound, typesSound, shapeSound, termSound, rises, entrySound, callsSound, listed, futureListed, futuresSound, programSound, sound}
 use Rattle.meaning.specs.declared.Shape.{Shape}
 use Rattle.meaning.specs.declared.Shape.the-variants.{Whole, Bad}
-use Rattle.meaning.proofs.Tests.{both, left, right, eq-same, none-some, within-if, within-of, numbers-is, numbers-same}
-use Rattle.meaning.proofs.Parse.{length-flat, tree-of-flat}
-use Rattle.meaning.proofs.Checks.{given-is, given-of, typed-if, typed-of}
-use Rattle.meaning.proofs.Facts.{Every, AllRows, Due, Listed, every-rows, rows-every}
-use Rattle.meaning.proofs.Layouts.{AllBytes, joins, bytes-append, bytes-drop, bytes-padded, padded-length, padded-back, zeros-replicate, pow256, Fits, Each, each-at, each-map, AllFit, Wide, length-read, length-write, bytes-write, read-write, write-read, length-reads, reads-fit, length-writes, bytes-writes, fields-from, reads-writes, writes-reads, reads-wide}
-use Rattle.meaning.proofs.Shapes.{passes, legal, future-code, rows-raw, in-range, last-kind, shape-whole, whole-of}
-use Rattle.meaning.proofs.Tables.{promised, ground-known}
+use Rattle.meaning.proofs.Trees.Tests.{both, left, right, eq-same, none-some, within-if, within-of, numbers-is, numbers-same}
+use Rattle.meaning.proofs.Trees.Parse.{length-flat, tree-of-flat}
+use Rattle.meaning.proofs.Typing.FirstBad.{given-is, given-of, typed-if, typed-of}
+use Rattle.meaning.proofs.Trees.EachRow.{Every, AllRows, Due, Listed, every-rows, rows-every}
+use Rattle.meaning.proofs.Bytes.Layouts.{AllBytes, joins, bytes-append, bytes-drop, bytes-padded, padded-length, padded-back, zeros-replicate, pow256, Fits, Each, each-at, each-map, AllFit, Wide, length-read, length-write, bytes-write, read-write, write-read, length-reads, reads-fit, length-writes, bytes-writes, fields-from, reads-writes, writes-reads, reads-wide}
+use Rattle.meaning.proofs.Bytes.RowTables.{passes, legal, future-code, rows-raw, in-range, last-kind, shape-whole, whole-of}
+use Rattle.meaning.proofs.Bytes.TypeTables.{promised, ground-known}
 
 -- A part of a record: rows in front, zeros behind ------------------------------------------------------------------
 

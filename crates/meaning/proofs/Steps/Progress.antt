@@ -10,11 +10,11 @@ use Rattle.meaning.specs.Types.{Str, File, Truth, Side, ntv, frn, Param,
 use Rattle.meaning.specs.Terms.{str, file, truth, Head, lit, var, lambda, foreign, apply, future, ite, fix, nil, cons, isnil, zip, tuple, project, lproject, bind, arity, code, nOf, wordOf, headFrom, Tree, Forest, node, end, more, headOf, tyOf, is}
 use Rattle.meaning.specs.Typing.{list, tys, litBase, firstIs, belowOk, Masked, Zipped, Rule, scope, Typed, TypedF}
 use Rattle.meaning.specs.Steps.{_∨ᵇ_, assign, put, value, values, Call, Out, stay, go, nth, kid, become, ifStep, isnilStep, projectStep, isList, ready, anyNil, lprojectStep, tie, fixStep, sendStep, zipCons, zipStep, applyStep, letStep, contract, Places, nowhere, everywhere, first, unless, behind, unready, applyLooks, looks, Outs, stays, goes, orElse, wrap, tailGoes, headGoes, visit, step, steps, Entry, earlier, awaited, awaitedIn}
-use Rattle.meaning.proofs.Tests.{both, left, right, or-l, or-r, none-some}
-use Rattle.meaning.proofs.Facts.{Every, Everys, Due, Listed}
-use Rattle.meaning.proofs.Views.{head-is}
-use Rattle.meaning.proofs.Follows.{looks-bare}
-use Rattle.meaning.proofs.Safety.{bare, zip-parts, tuple-parts}
+use Rattle.meaning.proofs.Trees.Tests.{both, left, right, or-l, or-r, none-some}
+use Rattle.meaning.proofs.Trees.EachRow.{Every, Everys, Due, Listed}
+use Rattle.meaning.proofs.Trees.ByKind.{head-is}
+use Rattle.meaning.proofs.Steps.FreeOrder.{looks-bare}
+use Rattle.meaning.proofs.Steps.Preservation.{bare, zip-parts, tuple-parts}
 
 -- Values -----------------------------------------------------------------------------------------------------------
 

@@ -25,14 +25,14 @@ use Rattle.meaning.specs.declared.Answer.{Answer}
 use Rattle.meaning.specs.declared.Answer.the-variants.{Value, Waiting, Sent, Held, Budget, Room, Numbers}
 use Rattle.meaning.specs.declared.Run.{Run}
 use Rattle.meaning.specs.declared.Run.the-variants.{Ran, Rejected}
-use Rattle.meaning.proofs.Tests.{both, none-some}
-use Rattle.meaning.proofs.Layouts.{AllBytes}
-use Rattle.meaning.proofs.Sound.{Small, Good, good-state, record-state, state-record, sound-record}
-use Rattle.meaning.proofs.Progress.{Progress, done, moves, waits, progress, awaited-listed}
-use Rattle.meaning.proofs.Running.{Stops, behind, Passes, Ends, stopped, spent, called, run-ends, run-keeps, run-makes}
-use Rattle.meaning.proofs.Stays.{Board, step-stays, reply-stays}
-use Rattle.meaning.proofs.Entered.{load-writes, run-good, run-short, reply-good, reply-short}
-use Rattle.meaning.proofs.Letters.{loaded-good}
+use Rattle.meaning.proofs.Trees.Tests.{both, none-some}
+use Rattle.meaning.proofs.Bytes.Layouts.{AllBytes}
+use Rattle.meaning.proofs.Bytes.Records.{Small, Good, good-state, record-state, state-record, sound-record}
+use Rattle.meaning.proofs.Steps.Progress.{Progress, done, moves, waits, progress, awaited-listed}
+use Rattle.meaning.proofs.Entries.Running.{Stops, behind, Passes, Ends, stopped, spent, called, run-ends, run-keeps, run-makes}
+use Rattle.meaning.proofs.Entries.GoodStays.{Board, step-stays, reply-stays}
+use Rattle.meaning.proofs.Entries.OnGoodStates.{load-writes, run-good, run-short, reply-good, reply-short}
+use Rattle.meaning.proofs.Bytes.Files.{loaded-good}
 
 -- One call -------------------------------------------------------------------------------------------------------
 

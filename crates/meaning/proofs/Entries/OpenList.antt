@@ -12,8 +12,8 @@ use Rattle.meaning.specs.Bytes.{_∧ᵇ_}
 use Rattle.meaning.specs.Steps.{Entry}
 use Rattle.meaning.specs.Records.{rises, listed}
 use Rattle.meaning.specs.Entries.{without}
-use Rattle.meaning.proofs.Tests.{both, left, right, none-some}
-use Rattle.meaning.proofs.Layouts.{Each}
+use Rattle.meaning.proofs.Trees.Tests.{both, left, right, none-some}
+use Rattle.meaning.proofs.Bytes.Layouts.{Each}
 
 pub each-append : {A : Type 0} (P : A → Type 0) (xs ys : List A) → Each P xs → Each P ys → Each P (xs ++ ys)
 unfolding Each

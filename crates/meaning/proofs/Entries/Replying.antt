@@ -23,15 +23,15 @@ use Rattle.meaning.specs.declared.Refusal.{Refusal}
 use Rattle.meaning.specs.declared.Refusal.the-variants.{Header, NotOpen, ReplyRow, ReplyKind, ReplyTyping, ReplyRoom}
 use Rattle.meaning.specs.declared.Verdict.{Verdict}
 use Rattle.meaning.specs.declared.Verdict.the-variants.{Accepted, Refused}
-use Rattle.meaning.proofs.Tests.{both, left, right, none-some}
-use Rattle.meaning.proofs.Facts.{Fact, Every, AllRows, every-rows, rows-every}
-use Rattle.meaning.proofs.Layouts.{Each, reads-wide}
-use Rattle.meaning.proofs.Shapes.{legal, shape-whole}
-use Rattle.meaning.proofs.Checks.{typed-if, typed-of}
-use Rattle.meaning.proofs.Sound.{Good}
-use Rattle.meaning.proofs.Loading.{required, require-pass, not-refused, refuse-pass, whole-shape, shape-pass}
-use Rattle.meaning.proofs.Calls.{listed-fact}
-use Rattle.meaning.proofs.Ground.{Plain, value-plain, plain-value}
+use Rattle.meaning.proofs.Trees.Tests.{both, left, right, none-some}
+use Rattle.meaning.proofs.Trees.EachRow.{Fact, Every, AllRows, every-rows, rows-every}
+use Rattle.meaning.proofs.Bytes.Layouts.{Each, reads-wide}
+use Rattle.meaning.proofs.Bytes.RowTables.{legal, shape-whole}
+use Rattle.meaning.proofs.Typing.FirstBad.{typed-if, typed-of}
+use Rattle.meaning.proofs.Bytes.Records.{Good}
+use Rattle.meaning.proofs.Entries.Loading.{required, require-pass, not-refused, refuse-pass, whole-shape, shape-pass}
+use Rattle.meaning.proofs.Entries.OpenList.{listed-fact}
+use Rattle.meaning.proofs.Typing.GroundValues.{Plain, value-plain, plain-value}
 
 -- a test of each row of a tree, as its raw rows show it
 none-later : {A : Type 0} (p : A → Bool) (x : A) (xs : List A) → firstNot p (x ∷ xs) ≡ none → (p x ≡ true) × (firstNot p xs ≡ none)

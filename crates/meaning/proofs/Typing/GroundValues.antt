@@ -11,11 +11,11 @@ use Rattle.meaning.specs.Types.{Side, Param, Form, fList, fTuple, fFun, 
 use Rattle.meaning.specs.Terms.{str, file, truth, lit, var, lambda, foreign, apply, future, ite, fix, nil, cons, isnil, zip, tuple, project, lproject, bind, code, Tree, Forest, node, end, more, tyOf}
 use Rattle.meaning.specs.Typing.{list, tys, Rule, scope, Typed, TypedF}
 use Rattle.meaning.specs.Steps.{value, values}
-use Rattle.meaning.proofs.Tests.{both, left, right}
+use Rattle.meaning.proofs.Trees.Tests.{both, left, right}
 use Rattle.meaning.specs.Entries.{replyKinds}
-use Rattle.meaning.proofs.Tables.{ground-elem, ground-parts, ground-no-function}
-use Rattle.meaning.proofs.Facts.{Fact, Every, Everys}
-use Rattle.meaning.proofs.Safety.{bare}
+use Rattle.meaning.proofs.Bytes.TypeTables.{ground-elem, ground-parts, ground-no-function}
+use Rattle.meaning.proofs.Trees.EachRow.{Fact, Every, Everys}
+use Rattle.meaning.proofs.Steps.Preservation.{bare}
 
 -- the kinds of data, those that a reply may have
 abbrev pub Plain : Fact

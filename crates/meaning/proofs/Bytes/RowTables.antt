@@ -18,10 +18,10 @@ use Rattle.meaning.specs.declared.Fault.{Fault}
 use Rattle.meaning.specs.declared.Fault.the-variants.{Behind, Unfinished}
 use Rattle.meaning.specs.declared.Shape.{Shape}
 use Rattle.meaning.specs.declared.Shape.the-variants.{Whole, Bad}
-use Rattle.meaning.proofs.Tests.{left, right, within-if, within-of, none-some}
-use Rattle.meaning.proofs.Parse.{sizes-split, kids-rows, length-flat, flat-inj}
-use Rattle.meaning.proofs.Facts.{Fact, Every, Everys, AllRows, rows-every}
-use Rattle.meaning.proofs.Layouts.{Each, Wide}
+use Rattle.meaning.proofs.Trees.Tests.{left, right, within-if, within-of, none-some}
+use Rattle.meaning.proofs.Trees.Parse.{sizes-split, kids-rows, length-flat, flat-inj}
+use Rattle.meaning.proofs.Trees.EachRow.{Fact, Every, Everys, AllRows, rows-every}
+use Rattle.meaning.proofs.Bytes.Layouts.{Each, Wide}
 
 -- One row --------------------------------------------------------------------------------------------------------
 

@@ -10,11 +10,11 @@ use Rattle.meaning.specs.Types.{frn, Param, Form, fFun, params, find, em
 use Rattle.meaning.specs.Terms.{Head, lit, var, lambda, foreign, apply, future, ite, fix, nil, cons, isnil, zip, tuple, project, lproject, bind, arity, nOf, wordOf, Tree, Forest, node, end, more, headOf, tyOf, is, Row, flat, flats, size, sizes}
 use Rattle.meaning.specs.Typing.{tys, Rule, scope, Typed, TypedF}
 use Rattle.meaning.specs.Steps.{values, Call, Out, stay, go, child, become, ifStep, isnilStep, projectStep, ready, anyNil, lprojectStep, tie, fixStep, sendStep, zipStep, applyStep, letStep, contract, Places, step}
-use Rattle.meaning.proofs.Parse.{length-flat, length-flats}
-use Rattle.meaning.proofs.Views.{foreign-is}
-use Rattle.meaning.proofs.Safety.{foreign-parts}
-use Rattle.meaning.proofs.Follows.{Follows, FollowsIn, root, inside, this, that, may-bare, step-free}
-use Rattle.meaning.proofs.Changes.{step-changes}
+use Rattle.meaning.proofs.Trees.Parse.{length-flat, length-flats}
+use Rattle.meaning.proofs.Trees.ByKind.{foreign-is}
+use Rattle.meaning.proofs.Steps.Preservation.{foreign-parts}
+use Rattle.meaning.proofs.Steps.FreeOrder.{Follows, FollowsIn, root, inside, this, that, may-bare, step-free}
+use Rattle.meaning.proofs.Steps.RowsStand.{step-changes}
 
 -- an application of a tool to values becomes the future of the next number, of the type that the application states
 pub record Sending (k : ℕ) (c : Call) (t u : Tree) : Type 0 where

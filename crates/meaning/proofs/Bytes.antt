@@ -1,0 +1,6 @@
+-- Layouts, tables, records, files and letters against their bytes.
+pub mod Layouts
+pub mod RowTables
+pub mod TypeTables
+pub mod Records
+pub mod Files

@@ -1,0 +1,10 @@
+-- Load, run and reply; histories.
+pub mod Refusals
+pub mod Running
+pub mod Loading
+pub mod OpenList
+pub mod Replying
+pub mod GoodStays
+pub mod OnGoodStates
+pub mod Histories
+pub mod Reports

@@ -1,0 +1,5 @@
+-- The rules, the check and what is put for names.
+pub mod FirstBad
+pub mod PaperRules
+pub mod Putting
+pub mod GroundValues
