@@ -1,2 +1,4 @@
 pub mod ByKind
 pub mod Scan
+pub mod Bits
+pub mod ByNumber
