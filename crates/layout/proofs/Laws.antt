@@ -85,13 +85,21 @@ module _ (p : ℕ) (s : List ℕ) where
       let f′ : p + 4 + 2 * j ≡ q = omega arith in
       rw (e′, type-row p s) (two-at 16 j (drop (p + 4) s) h ∙ ap (number 2) (drop-drop (2 * j) (p + 4) s ∙ ap (λ (x : ℕ). drop x s) f′))
 
+-- the k-th pair of row t
+module _ (t : ℕ) (s : List ℕ) (k : ℕ) (h : k < 8) where
+  pub name-at : getD (read typeRow (drop (36 * t) s)) (3 + 2 * k) 0 ≡ number 2 (drop (36 * t + 4 + 4 * k) s)
+  name-at = behind-at (36 * t) s (2 * k) (3 + 2 * k) (36 * t + 4 + 4 * k) (omega arith) refl (omega arith)
+
+  pub type-at : getD (read typeRow (drop (36 * t) s)) (4 + 2 * k) 0 ≡ number 2 (drop (36 * t + 6 + 4 * k) s)
+  type-at = behind-at (36 * t) s (2 * k + 1) (4 + 2 * k) (36 * t + 6 + 4 * k) (omega arith) (omega arith) (omega arith)
+
 -- the k-th pair of row t of the type rows that begin at base
 module _ (base t : ℕ) (s : List ℕ) (k : ℕ) (h : k < 8) where
-  pub name-at : getD (read typeRow (drop (base + 36 * t) s)) (3 + 2 * k) 0 ≡ number 2 (drop (base + 36 * t + 4 + 4 * k) s)
-  name-at = behind-at (base + 36 * t) s (2 * k) (3 + 2 * k) (base + 36 * t + 4 + 4 * k) (omega arith) refl (omega arith)
+  pub name-in : getD (read typeRow (drop (base + 36 * t) s)) (3 + 2 * k) 0 ≡ number 2 (drop (base + 36 * t + 4 + 4 * k) s)
+  name-in = behind-at (base + 36 * t) s (2 * k) (3 + 2 * k) (base + 36 * t + 4 + 4 * k) (omega arith) refl (omega arith)
 
-  pub type-at : getD (read typeRow (drop (base + 36 * t) s)) (4 + 2 * k) 0 ≡ number 2 (drop (base + 36 * t + 6 + 4 * k) s)
-  type-at = behind-at (base + 36 * t) s (2 * k + 1) (4 + 2 * k) (base + 36 * t + 6 + 4 * k) (omega arith) (omega arith) (omega arith)
+  pub type-in : getD (read typeRow (drop (base + 36 * t) s)) (4 + 2 * k) 0 ≡ number 2 (drop (base + 36 * t + 6 + 4 * k) s)
+  type-in = behind-at (base + 36 * t) s (2 * k + 1) (4 + 2 * k) (base + 36 * t + 6 + 4 * k) (omega arith) (omega arith) (omega arith)
 
 -- Tables ---------------------------------------------------------------------------------------------------------
 

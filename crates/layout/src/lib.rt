@@ -1,7 +1,7 @@
 // Numbers and rows in lent bytes, by the layouts of the meaning: read by value, written, copied, cleared.
 ghost use mathlib.Core.Path.{_≡_};
 ghost use mathlib.Core.List.{_++_};
-ghost use Prim.Native.Nat.{_+_, _*_, _-_, _≤_, _<_};
+ghost use Prim.Native.Nat.{_+_, _*_, _-_, _/_, _≤_, _<_};
 ghost use lib.ListN.{length, getD, take, drop, replicate};
 ghost use lib.Seq.{sets};
 ghost use mathlib.Core.List.{[], _∷_};
@@ -9,6 +9,30 @@ ghost use Rattle.meaning.specs.Bytes.{number, spell, read, write, typeRow, term
 ghost use Rattle.meaning.specs.Records.{recordMark};
 ghost use Rattle.meaning.specs.Types.{formNo, partsNo, result};
 ghost use Rattle.layout.specs.Rows.{numbers, board};
+
+// Bytes of each header and row.
+pub const FILE_HEAD: usize = 10;
+
+pub const RECORD_HEAD: usize = 20;
+
+pub const REPLY_HEAD: usize = 8;
+
+pub const CALL_HEAD: usize = 12;
+
+pub const TYPE_ROW: usize = 36;
+
+pub const TERM_ROW: usize = 8;
+
+pub const ENTRY_ROW: usize = 8;
+
+// Where the fields of a file's header and of a record's header stand.
+pub const FILE_VERSION_AT: usize = 3;
+
+pub const FILE_ZERO_AT: usize = 5;
+
+pub const FILE_TYPES_AT: usize = 6;
+
+pub const FILE_ROWS_AT: usize = 8;
 
 // What a search for a row finds.
 pub enum Found {
@@ -39,19 +63,19 @@ pub struct Limits {
 pub fn calls_at(m: Limits) -> usize
     ensures { λ r. ⌜ r ≡ callsAt (board m) ⌝ }
 {
-    20 + 36 * m.types as usize
+    RECORD_HEAD + TYPE_ROW * m.types as usize
 }
 
 pub fn rows_at(m: Limits) -> usize
     ensures { λ r. ⌜ r ≡ rowsAt (board m) ⌝ }
 {
-    calls_at(m) + 8 * m.calls as usize
+    calls_at(m) + ENTRY_ROW * m.calls as usize
 }
 
 pub fn record_bytes(m: Limits) -> usize
     ensures { λ r. ⌜ r ≡ recordBytes (board m) ⌝ }
 {
-    rows_at(m) + 8 * m.rows as usize
+    rows_at(m) + TERM_ROW * m.rows as usize
 }
 
 fn u16_of(a: u8, b: u8) -> u16
@@ -80,8 +104,95 @@ pub fn u32_at(s: &[u8], at: usize) -> u32
     u32_of(u16_at(s, at), u16_at(s, at + 2))
 }
 
+// How many rows a table of types and a table of terms has.
+pub fn type_rows(types: &[u8]) -> usize
+    ensures { λ n. ⌜ n ≡ length (now (types .entry)) / 36 ⌝ }
+{
+    types.len() / TYPE_ROW
+}
+
+pub fn term_rows(rows: &[u8]) -> usize
+    ensures { λ n. ⌜ n ≡ length (now (rows .entry)) / 8 ⌝ }
+{
+    rows.len() / TERM_ROW
+}
+
+// Row i of a table of terms.
+pub fn row_at(rows: &[u8], i: usize) -> Row
+    requires { ⌜ 8 * i + 8 ≤ length (now rows) ⌝ }
+    ensures { λ r. ⌜ numbers r ≡ read termRow (drop (8 * i) (now (rows .entry))) ⌝ }
+{
+    let at = TERM_ROW * i;
+    Row {
+        kind: rows[at],
+        n: rows[at + 1],
+        ty: u16_at(rows, at + 2),
+        word: u32_at(rows, at + 4),
+    }
+}
+
+// The fields of row t of a table of types.
+pub fn form_no(types: &[u8], t: usize) -> u8
+    requires { ⌜ 36 * t + 36 ≤ length (now types) ⌝ }
+    ensures { λ r. ⌜ r ≡ formNo (read typeRow (drop (36 * t) (now (types .entry)))) ⌝ }
+{
+    types[TYPE_ROW * t]
+}
+
+pub fn parts_no(types: &[u8], t: usize) -> u8
+    requires { ⌜ 36 * t + 36 ≤ length (now types) ⌝ }
+    ensures { λ r. ⌜ r ≡ partsNo (read typeRow (drop (36 * t) (now (types .entry)))) ⌝ }
+{
+    types[TYPE_ROW * t + 1]
+}
+
+pub fn result_no(types: &[u8], t: usize) -> u16
+    requires { ⌜ 36 * t + 36 ≤ length (now types) ⌝ }
+    ensures { λ r. ⌜ r ≡ result (read typeRow (drop (36 * t) (now (types .entry)))) ⌝ }
+{
+    u16_at(types, TYPE_ROW * t + 2)
+}
+
+// The k-th pair's name and type, counted from 0.
+pub fn name_no(types: &[u8], t: usize, k: usize) -> u16
+    requires { ⌜ (36 * t + 36 ≤ length (now types)) × (k < 8) ⌝ }
+    ensures { λ r. ⌜ r ≡ getD (read typeRow (drop (36 * t) (now (types .entry)))) (3 + 2 * k) 0 ⌝ }
+{
+    u16_at(types, TYPE_ROW * t + 4 + 4 * k)
+}
+
+pub fn type_no(types: &[u8], t: usize, k: usize) -> u16
+    requires { ⌜ (36 * t + 36 ≤ length (now types)) × (k < 8) ⌝ }
+    ensures { λ r. ⌜ r ≡ getD (read typeRow (drop (36 * t) (now (types .entry)))) (4 + 2 * k) 0 ⌝ }
+{
+    u16_at(types, TYPE_ROW * t + 6 + 4 * k)
+}
+
+// A number of two bytes as a place, and as a word.
+pub fn wide(x: u16) -> usize
+    ensures { λ r. ⌜ r ≡ x ⌝ }
+{
+    x as usize
+}
+
+pub fn word_of(x: u16) -> u32
+    ensures { λ r. ⌜ r ≡ x ⌝ }
+{
+    x as u32
+}
+
+// One less, and never below 0.
+pub fn less_one(n: usize) -> usize
+    ensures { λ r. ⌜ r ≡ n - 1 ⌝ }
+{
+    if n == 0 {
+        return 0;
+    }
+    n - 1
+}
+
 // Row i of the term rows that begin at base.
-pub fn row_at(bytes: &[u8], base: usize, i: usize) -> Row
+pub fn row_in(bytes: &[u8], base: usize, i: usize) -> Row
     requires { ⌜ base + 8 * i + 8 ≤ length (now bytes) ⌝ }
     ensures { λ r. ⌜ numbers r ≡ read termRow (drop (base + 8 * i) (now (bytes .entry))) ⌝ }
 {
@@ -95,21 +206,21 @@ pub fn row_at(bytes: &[u8], base: usize, i: usize) -> Row
 }
 
 // The fields of row t of the type rows that begin at base.
-pub fn form_no(types: &[u8], base: usize, t: usize) -> u8
+pub fn form_in(types: &[u8], base: usize, t: usize) -> u8
     requires { ⌜ base + 36 * t + 36 ≤ length (now types) ⌝ }
     ensures { λ r. ⌜ r ≡ formNo (read typeRow (drop (base + 36 * t) (now (types .entry)))) ⌝ }
 {
     types[base + 36 * t]
 }
 
-pub fn parts_no(types: &[u8], base: usize, t: usize) -> u8
+pub fn parts_in(types: &[u8], base: usize, t: usize) -> u8
     requires { ⌜ base + 36 * t + 36 ≤ length (now types) ⌝ }
     ensures { λ r. ⌜ r ≡ partsNo (read typeRow (drop (base + 36 * t) (now (types .entry)))) ⌝ }
 {
     types[base + 36 * t + 1]
 }
 
-pub fn result_no(types: &[u8], base: usize, t: usize) -> u16
+pub fn result_in(types: &[u8], base: usize, t: usize) -> u16
     requires { ⌜ base + 36 * t + 36 ≤ length (now types) ⌝ }
     ensures { λ r. ⌜ r ≡ result (read typeRow (drop (base + 36 * t) (now (types .entry)))) ⌝ }
 {
@@ -117,14 +228,14 @@ pub fn result_no(types: &[u8], base: usize, t: usize) -> u16
 }
 
 // The k-th pair's name and type, counted from 0.
-pub fn name_no(types: &[u8], base: usize, t: usize, k: usize) -> u16
+pub fn name_in(types: &[u8], base: usize, t: usize, k: usize) -> u16
     requires { ⌜ (base + 36 * t + 36 ≤ length (now types)) × (k < 8) ⌝ }
     ensures { λ r. ⌜ r ≡ getD (read typeRow (drop (base + 36 * t) (now (types .entry)))) (3 + 2 * k) 0 ⌝ }
 {
     u16_at(types, base + 36 * t + 4 + 4 * k)
 }
 
-pub fn type_no(types: &[u8], base: usize, t: usize, k: usize) -> u16
+pub fn type_in(types: &[u8], base: usize, t: usize, k: usize) -> u16
     requires { ⌜ (base + 36 * t + 36 ≤ length (now types)) × (k < 8) ⌝ }
     ensures { λ r. ⌜ r ≡ getD (read typeRow (drop (base + 36 * t) (now (types .entry)))) (4 + 2 * k) 0 ⌝ }
 {

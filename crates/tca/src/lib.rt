@@ -49,7 +49,7 @@ fn first_future(bytes: &[u8], base: usize, rows: usize) -> Found
 {
     let mut i = 0;
     while i < rows {
-        let r = layout::row_at(bytes, base, i);
+        let r = layout::row_in(bytes, base, i);
         if r.kind == 9 {
             return Found::At(i as u32);
         }

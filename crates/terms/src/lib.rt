@@ -156,7 +156,7 @@ pub fn check_shape(bytes: &[u8], base: usize, rows: usize, count: u16, edition: 
     let mut owed: usize = 1;
     let mut i: usize = 0;
     while i < rows {
-        let r = layout::row_at(bytes, base, i);
+        let r = layout::row_in(bytes, base, i);
         let f = row_fault(r, count, edition);
         match f {
             Faulty::Faulty(fault) => {
@@ -186,7 +186,7 @@ pub fn end_of(bytes: &[u8], base: usize, rows: usize, at: usize) -> usize
     let mut owed: usize = 1;
     let mut i = at;
     while 0 < owed {
-        owed = owed - 1 + children(layout::row_at(bytes, base, i));
+        owed = owed - 1 + children(layout::row_in(bytes, base, i));
         i += 1;
     }
     i
@@ -220,7 +220,7 @@ pub fn ends(bytes: &[u8], base: usize, rows: usize, ends: &mut [u16])
     let mut j = rows;
     while 0 < j {
         let i = j - 1;
-        let a = children(layout::row_at(bytes, base, i));
+        let a = children(layout::row_in(bytes, base, i));
         let e = past(ends, j, a);
         ends[i] = e as u16;
         j = i;

@@ -13,7 +13,7 @@ pub fn part_count(types: &[u8], base: usize, t: usize) -> usize
     requires { ⌜ base + 36 * t + 36 ≤ length (now types) ⌝ }
     ensures { λ n. ⌜ n ≡ length (parts (typeAt (now (types .entry)) base t)) ⌝ }
 {
-    let n = layout::parts_no(types, base, t) as usize;
+    let n = layout::parts_in(types, base, t) as usize;
     if 8 < n {
         return 8;
     }
@@ -36,10 +36,10 @@ fn rest_zero(types: &[u8], base: usize, t: usize, n: usize) -> bool
 {
     let mut k = n;
     while k < 8 {
-        if layout::name_no(types, base, t, k) != 0 {
+        if layout::name_in(types, base, t, k) != 0 {
             return false;
         }
-        if layout::type_no(types, base, t, k) != 0 {
+        if layout::type_in(types, base, t, k) != 0 {
             return false;
         }
         k += 1;
@@ -54,7 +54,7 @@ fn names_zero(types: &[u8], base: usize, t: usize, n: usize) -> bool
 {
     let mut k = 0;
     while k < n {
-        if layout::name_no(types, base, t, k) != 0 {
+        if layout::name_in(types, base, t, k) != 0 {
             return false;
         }
         k += 1;
@@ -69,7 +69,7 @@ fn parts_below(types: &[u8], base: usize, t: usize, n: usize) -> bool
 {
     let mut k = 0;
     while k < n {
-        if t <= layout::type_no(types, base, t, k) as usize {
+        if t <= layout::type_in(types, base, t, k) as usize {
             return false;
         }
         k += 1;
@@ -84,7 +84,7 @@ fn name_from(types: &[u8], base: usize, t: usize, n: usize, k: usize, x: u16) ->
 {
     let mut j = k;
     while j < n {
-        if layout::name_no(types, base, t, j) == x {
+        if layout::name_in(types, base, t, j) == x {
             return true;
         }
         j += 1;
@@ -99,7 +99,7 @@ fn names_ok(types: &[u8], base: usize, t: usize, n: usize) -> bool
 {
     let mut k = 0;
     while k < n {
-        let x = layout::name_no(types, base, t, k);
+        let x = layout::name_in(types, base, t, k);
         if x == 0 {
             return false;
         }
@@ -116,10 +116,10 @@ fn plain_ok(types: &[u8], base: usize, t: usize) -> bool
     requires { ⌜ base + 36 * t + 36 ≤ length (now types) ⌝ }
     ensures { λ b. ⌜ b ≡ plainOk (typeAt (now (types .entry)) base t) ⌝ }
 {
-    if layout::parts_no(types, base, t) != 0 {
+    if layout::parts_in(types, base, t) != 0 {
         return false;
     }
-    if layout::result_no(types, base, t) != 0 {
+    if layout::result_in(types, base, t) != 0 {
         return false;
     }
     true
@@ -129,10 +129,10 @@ fn list_ok(types: &[u8], base: usize, t: usize) -> bool
     requires { ⌜ base + 36 * t + 36 ≤ length (now types) ⌝ }
     ensures { λ b. ⌜ b ≡ listOk t (typeAt (now (types .entry)) base t) ⌝ }
 {
-    if layout::parts_no(types, base, t) != 0 {
+    if layout::parts_in(types, base, t) != 0 {
         return false;
     }
-    if t <= layout::result_no(types, base, t) as usize {
+    if t <= layout::result_in(types, base, t) as usize {
         return false;
     }
     true
@@ -142,14 +142,14 @@ fn tuple_ok(types: &[u8], base: usize, t: usize) -> bool
     requires { ⌜ base + 36 * t + 36 ≤ length (now types) ⌝ }
     ensures { λ b. ⌜ b ≡ tupleOk t (typeAt (now (types .entry)) base t) ⌝ }
 {
-    let n = layout::parts_no(types, base, t) as usize;
+    let n = layout::parts_in(types, base, t) as usize;
     if n == 0 {
         return false;
     }
     if 8 < n {
         return false;
     }
-    if layout::result_no(types, base, t) != 0 {
+    if layout::result_in(types, base, t) != 0 {
         return false;
     }
     if names_zero(types, base, t, n) {
@@ -162,11 +162,11 @@ fn function_ok(types: &[u8], base: usize, t: usize) -> bool
     requires { ⌜ base + 36 * t + 36 ≤ length (now types) ⌝ }
     ensures { λ b. ⌜ b ≡ functionOk t (typeAt (now (types .entry)) base t) ⌝ }
 {
-    let n = layout::parts_no(types, base, t) as usize;
+    let n = layout::parts_in(types, base, t) as usize;
     if 8 < n {
         return false;
     }
-    if t <= layout::result_no(types, base, t) as usize {
+    if t <= layout::result_in(types, base, t) as usize {
         return false;
     }
     if names_ok(types, base, t, n) {
@@ -179,8 +179,8 @@ fn fields_ok(types: &[u8], base: usize, t: usize) -> bool
     requires { ⌜ base + 36 * t + 36 ≤ length (now types) ⌝ }
     ensures { λ b. ⌜ b ≡ fieldsOk t (typeAt (now (types .entry)) base t) ⌝ }
 {
-    let form = layout::form_no(types, base, t);
-    let n = layout::parts_no(types, base, t) as usize;
+    let form = layout::form_in(types, base, t);
+    let n = layout::parts_in(types, base, t) as usize;
     if rest_zero(types, base, t, n) {
         if form < 4 {
             return plain_ok(types, base, t);
@@ -201,13 +201,13 @@ fn same_row(types: &[u8], base: usize, t: usize, u: usize) -> bool
     requires { ⌜ (base + 36 * t + 36 ≤ length (now types)) × (base + 36 * u + 36 ≤ length (now types)) ⌝ }
     ensures { λ b. ⌜ b ≡ sameNumbers (typeAt (now (types .entry)) base t) (typeAt (now (types .entry)) base u) ⌝ }
 {
-    if layout::form_no(types, base, t) != layout::form_no(types, base, u) {
+    if layout::form_in(types, base, t) != layout::form_in(types, base, u) {
         return false;
     }
-    if layout::parts_no(types, base, t) != layout::parts_no(types, base, u) {
+    if layout::parts_in(types, base, t) != layout::parts_in(types, base, u) {
         return false;
     }
-    if layout::result_no(types, base, t) != layout::result_no(types, base, u) {
+    if layout::result_in(types, base, t) != layout::result_in(types, base, u) {
         return false;
     }
     same_pairs(types, base, t, u)
@@ -220,10 +220,10 @@ fn same_pairs(types: &[u8], base: usize, t: usize, u: usize) -> bool
 {
     let mut k = 0;
     while k < 8 {
-        if layout::name_no(types, base, t, k) != layout::name_no(types, base, u, k) {
+        if layout::name_in(types, base, t, k) != layout::name_in(types, base, u, k) {
             return false;
         }
-        if layout::type_no(types, base, t, k) != layout::type_no(types, base, u, k) {
+        if layout::type_in(types, base, t, k) != layout::type_in(types, base, u, k) {
             return false;
         }
         k += 1;
@@ -268,12 +268,12 @@ pub fn ground(types: &[u8], base: usize, count: usize, known: &mut [u8; 256], t:
     if said != 0 {
         return said == 1;
     }
-    let form = layout::form_no(types, base, t);
+    let form = layout::form_in(types, base, t);
     if form < 4 {
         return remember(known, t, 0 < form);
     }
     if form == 4 {
-        let e = layout::result_no(types, base, t) as usize;
+        let e = layout::result_in(types, base, t) as usize;
         if t <= e {
             return remember(known, t, false);
         }
@@ -286,7 +286,7 @@ pub fn ground(types: &[u8], base: usize, count: usize, known: &mut [u8; 256], t:
     let n = part_count(types, base, t);
     let mut k = 0;
     while k < n {
-        let p = layout::type_no(types, base, t, k) as usize;
+        let p = layout::type_in(types, base, t, k) as usize;
         if t <= p {
             return remember(known, t, false);
         }
@@ -318,7 +318,7 @@ fn parts_ground(types: &[u8], base: usize, count: usize, known: &mut [u8; 256], 
     let n = part_count(types, base, t);
     let mut k = 0;
     while k < n {
-        let p = layout::type_no(types, base, t, k) as usize;
+        let p = layout::type_in(types, base, t, k) as usize;
         if ground_at(types, base, count, known, p) {
             k += 1;
         } else {
@@ -333,10 +333,10 @@ fn ground_call(types: &[u8], base: usize, count: usize, known: &mut [u8; 256], t
     requires { ⌜ (base + 36 * count ≤ length (now types)) × (count ≤ 256) × (t < count) × Truthful (now known) (formOf (table (now types) base count)) ⌝ }
     ensures { λ b. ⌜ Told (formOf (table (now (types .entry)) base count)) (now (known .exit)) (groundCall (formOf (table (now (types .entry)) base count)) (typeAt (now (types .entry)) base t)) b ⌝ }
 {
-    if layout::form_no(types, base, t) != 7 {
+    if layout::form_in(types, base, t) != 7 {
         return true;
     }
-    let e = layout::result_no(types, base, t) as usize;
+    let e = layout::result_in(types, base, t) as usize;
     if ground_at(types, base, count, known, e) {
         return parts_ground(types, base, count, known, t);
     }
@@ -355,7 +355,7 @@ fn type_ok(
     requires { ⌜ (base + 36 * count ≤ length (now types)) × (count ≤ 256) × (t < count) × Truthful (now known) (formOf (table (now types) base count)) ⌝ }
     ensures { λ b. ⌜ Told (formOf (table (now (types .entry)) base count)) (now (known .exit)) (typeOk edition (table (now (types .entry)) base t) (typeAt (now (types .entry)) base t)) b ⌝ }
 {
-    let form = layout::form_no(types, base, t);
+    let form = layout::form_in(types, base, t);
     if form == 0 {
         return false;
     }

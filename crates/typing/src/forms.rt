@@ -12,7 +12,7 @@ pub fn form_of(types: &[u8], base: usize, count: usize, t: u16) -> u8
 {
     let at = t as usize;
     if at < count {
-        return layout::form_no(types, base, at);
+        return layout::form_in(types, base, at);
     }
     0
 }
@@ -24,7 +24,7 @@ pub fn result_of(types: &[u8], base: usize, count: usize, t: u16) -> u16
 {
     let at = t as usize;
     if at < count {
-        return layout::result_no(types, base, at);
+        return layout::result_in(types, base, at);
     }
     0
 }
@@ -36,7 +36,7 @@ pub fn parts_of(types: &[u8], base: usize, count: usize, t: u16) -> usize
 {
     let at = t as usize;
     if at < count {
-        return few(layout::parts_no(types, base, at));
+        return few(layout::parts_in(types, base, at));
     }
     0
 }
@@ -56,12 +56,12 @@ pub fn name_of(types: &[u8], base: usize, count: usize, t: u16, k: usize) -> u16
     requires { ⌜ (base + 36 * count ≤ length (now types)) × (k < length (parts (says (now types) base count t))) ⌝ }
     ensures { λ r. ⌜ r ≡ getD (names (parts (says (now (types .entry)) base count t))) k 0 ⌝ }
 {
-    layout::name_no(types, base, t as usize, k)
+    layout::name_in(types, base, t as usize, k)
 }
 
 pub fn type_of(types: &[u8], base: usize, count: usize, t: u16, k: usize) -> u16
     requires { ⌜ (base + 36 * count ≤ length (now types)) × (k < length (parts (says (now types) base count t))) ⌝ }
     ensures { λ r. ⌜ r ≡ getD (partTypes (says (now (types .entry)) base count t)) k 0 ⌝ }
 {
-    layout::type_no(types, base, t as usize, k)
+    layout::type_in(types, base, t as usize, k)
 }

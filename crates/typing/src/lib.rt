@@ -38,7 +38,7 @@ fn judge(
     let mut i: usize = 0;
     while 0 < owed {
         if scopes::row_ok(types, tbase, count, bytes, base, rows, ends, scope, i) {
-            owed = owed - 1 + terms::children(layout::row_at(bytes, base, i));
+            owed = owed - 1 + terms::children(layout::row_in(bytes, base, i));
             scopes::hand_on(bytes, base, rows, ends, scope, i);
             i += 1;
         } else {

@@ -58,7 +58,7 @@ fn bound_in(
     requires { ⌜ (tbase + 36 * count ≤ length (now types)) × (base + 8 * rows ≤ length (now bytes)) × (b < rows) ⌝ }
     ensures { λ r. ⌜ named r ≡ find (binds (forms (now (types .entry)) tbase count) (treeAt (termRows (now (bytes .entry)) base rows) b)) x ⌝ }
 {
-    let r = layout::row_at(bytes, base, b);
+    let r = layout::row_in(bytes, base, b);
     let k = r.kind;
     let w = r.word;
     if k == 6 {

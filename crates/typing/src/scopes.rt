@@ -34,7 +34,7 @@ fn variable_ok(
     requires { ⌜ (tbase + 36 * count ≤ length (now types)) × (base + 8 * rows ≤ length (now bytes)) × (rows ≤ length (now scope)) × Low (now scope) rows × (i < rows) × (kindNo (read termRow (drop (base + 8 * i) (now bytes))) ≡ 5) ⌝ }
     ensures { λ r. ⌜ r ≡ judged (forms (now (types .entry)) tbase count) (around (forms (now (types .entry)) tbase count) (termRows (now (bytes .entry)) base rows) (now (scope .entry)) i) (treeAt (termRows (now (bytes .entry)) base rows) i) ⌝ }
 {
-    let r = layout::row_at(bytes, base, i);
+    let r = layout::row_in(bytes, base, i);
     let ty = r.ty;
     let f = names::lookup(
         types,
@@ -67,7 +67,7 @@ fn apply_ok(
     requires { ⌜ Ready (now types) tbase count (now bytes) base rows (now ends) × (i < rows) × (kindNo (read termRow (drop (base + 8 * i) (now bytes))) ≡ 8) ⌝ }
     ensures { λ r. ⌜ r ≡ judged (forms (now (types .entry)) tbase count) empty (treeAt (termRows (now (bytes .entry)) base rows) i) ⌝ }
 {
-    let r = layout::row_at(bytes, base, i);
+    let r = layout::row_in(bytes, base, i);
     let c = stated::type_at(bytes, base, rows, i + 1);
     if !rules::is_function(forms::form_of(types, tbase, count, c)) {
         return false;
@@ -103,7 +103,7 @@ fn fix_ok(
     requires { ⌜ (tbase + 36 * count ≤ length (now types)) × (base + 8 * rows ≤ length (now bytes)) × (i < rows) × (kindNo (read termRow (drop (base + 8 * i) (now bytes))) ≡ 11) ⌝ }
     ensures { λ r. ⌜ r ≡ judged (forms (now (types .entry)) tbase count) empty (treeAt (termRows (now (bytes .entry)) base rows) i) ⌝ }
 {
-    let r = layout::row_at(bytes, base, i);
+    let r = layout::row_in(bytes, base, i);
     if stated::is_native(bytes, base, rows, i + 1) {
         return rules::fix_ok(
             types,
@@ -130,7 +130,7 @@ fn tuple_ok(
     requires { ⌜ Ready (now types) tbase count (now bytes) base rows (now ends) × (i < rows) × (kindNo (read termRow (drop (base + 8 * i) (now bytes))) ≡ 16) ⌝ }
     ensures { λ r. ⌜ r ≡ judged (forms (now (types .entry)) tbase count) empty (treeAt (termRows (now (bytes .entry)) base rows) i) ⌝ }
 {
-    let r = layout::row_at(bytes, base, i);
+    let r = layout::row_in(bytes, base, i);
     if forms::form_of(types, tbase, count, r.ty) != 5 {
         return false;
     }
@@ -162,7 +162,7 @@ fn other_ok(
     requires { ⌜ Ready (now types) tbase count (now bytes) base rows (now ends) × (i < rows) × FixedKind (kindNo (read termRow (drop (base + 8 * i) (now bytes)))) ⌝ }
     ensures { λ r. ⌜ r ≡ judged (forms (now (types .entry)) tbase count) empty (treeAt (termRows (now (bytes .entry)) base rows) i) ⌝ }
 {
-    let r = layout::row_at(bytes, base, i);
+    let r = layout::row_in(bytes, base, i);
     let p = i + 1;
     let q = stated::next(ends, rows, p);
     let s = stated::next(ends, rows, q);
@@ -187,7 +187,7 @@ pub fn row_ok(
     requires { ⌜ Ready (now types) tbase count (now bytes) base rows (now ends) × (rows ≤ length (now scope)) × Low (now scope) rows × (i < rows) ⌝ }
     ensures { λ r. ⌜ r ≡ judged (forms (now (types .entry)) tbase count) (around (forms (now (types .entry)) tbase count) (termRows (now (bytes .entry)) base rows) (now (scope .entry)) i) (treeAt (termRows (now (bytes .entry)) base rows) i) ⌝ }
 {
-    let r = layout::row_at(bytes, base, i);
+    let r = layout::row_in(bytes, base, i);
     let k = r.kind;
     if k == 5 {
         return variable_ok(types, tbase, count, bytes, base, rows, scope, i);
@@ -225,7 +225,7 @@ pub fn hand_on(bytes: &[u8], base: usize, rows: usize, ends: &[u16], scope: &mut
     requires { ⌜ (base + 8 * rows ≤ length (now bytes)) × (rows ≤ length (now ends)) × (rows ≤ length (now scope)) × (rows ≤ 2048) × (i < rows) × Ends (termRows (now bytes) base rows) rows (now ends) × Closed (termRows (now bytes) base rows) rows ⌝ }
     ensures { λ _. ⌜ now (scope .exit) ≡ handOn (termRows (now (bytes .entry)) base rows) (innerOf (kindNo (read termRow (drop (base + 8 * i) (now (bytes .entry))))) (getD (now (scope .entry)) i 0) (i + 1)) 0 (arity (rowOf (read termRow (drop (base + 8 * i) (now (bytes .entry)))) .head)) (i + 1) (now (scope .entry)) ⌝ }
 {
-    let r = layout::row_at(bytes, base, i);
+    let r = layout::row_in(bytes, base, i);
     let kind = r.kind;
     let n = terms::children(r);
     let outer = scope[i];

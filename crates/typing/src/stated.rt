@@ -18,7 +18,7 @@ pub fn type_at(bytes: &[u8], base: usize, rows: usize, p: usize) -> u16
     ensures { λ r. ⌜ r ≡ tyOf (treeAt (termRows (now (bytes .entry)) base rows) p) ⌝ }
 {
     if p < rows {
-        let r = layout::row_at(bytes, base, p);
+        let r = layout::row_in(bytes, base, p);
         return r.ty;
     }
     0
@@ -30,7 +30,7 @@ pub fn is_native(bytes: &[u8], base: usize, rows: usize, p: usize) -> bool
     ensures { λ r. ⌜ r ≡ is 6 (treeAt (termRows (now (bytes .entry)) base rows) p) ⌝ }
 {
     if p < rows {
-        let r = layout::row_at(bytes, base, p);
+        let r = layout::row_in(bytes, base, p);
         return r.kind == 6;
     }
     false

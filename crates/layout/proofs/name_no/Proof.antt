@@ -9,5 +9,5 @@ use Rattle.layout.proofs.name_no.Tie as tie
 pub name-no-spec : {M : Type 1} → statement M
 name-no-spec =
     tie.close
-    (tie.spec (λ c. search needs) (λ c. search needs) (λ c. search needs) (λ c. search needs) (λ c. search needs) (λ c κs. search needs)  -- returns
-    (λ c. let a = c .before .before .args in c .u16-at .ensures ∙ sym (name-at (a .base) (a .t) (a .types .now) (a .k) (omega arith))))
+    (tie.spec (λ c. search needs) (λ c. search needs) (λ c. search needs) (λ c. search needs) (λ c κs. search needs)  -- returns
+    (λ c. let a = c .before .before .args in c .u16-at .ensures ∙ sym (name-at (a .t) (a .types .now) (a .k) (omega arith))))

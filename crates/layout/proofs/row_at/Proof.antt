@@ -1,5 +1,5 @@
 -- `layout::row_at` meets its contract: the fields at their places. Assumes nothing.
-use Prim.Native.Nat.{_+_, _*_}
+use Prim.Native.Nat.{_*_}
 use mathlib.Core.Path.{refl}
 use Rattle.layout.proofs.Laws.{row-made}
 use borrow.Author.Needs.{needs}
@@ -15,9 +15,8 @@ row-at-spec =
     (λ c. search needs)
     (λ c. search needs)
     (λ c. search needs)
-    (λ c. search needs)
     (λ c κs. search needs)
     (λ c. search needs)
     (λ c κs. search needs)
     -- returns
-    (λ c. row-made (c .before .before .before .before .before .args .base + 8 * c .before .before .before .before .before .args .i) (c .before .before .before .before .before .args .bytes .now) _ refl refl (c .before .u16-at .ensures) (c .u32-at .ensures)))
+    (λ c. row-made (8 * c .before .before .before .before .before .args .i) (c .before .before .before .before .before .args .rows .now) _ refl refl (c .before .u16-at .ensures) (c .u32-at .ensures)))

@@ -35,7 +35,7 @@ first-future-spec =
     let l = c .before .before .before .before .loop in
     let t = reads termRow (a .rows) (drop (a .base) (a .bytes .now)) in
     let z = rows-length termRow (a .rows) (drop (a .base) (a .bytes .now)) in
-    sym (first-here noFuture t (l .i) [] _ (omega arith) (row-of-table (a .rows) (l .i) (a .base) (a .bytes .now) [] _ (omega arith) (c .before .before .row-at .ensures)) (future-if _ _ refl (c .if1 .taken))) ∙ l .inv .1)
+    sym (first-here noFuture t (l .i) [] _ (omega arith) (row-of-table (a .rows) (l .i) (a .base) (a .bytes .now) [] _ (omega arith) (c .before .before .row-in .ensures)) (future-if _ _ refl (c .if1 .taken))) ∙ l .inv .1)
     (λ c. omega arith)
     (λ c. omega arith)
     -- loop-again
@@ -44,7 +44,7 @@ first-future-spec =
     let l = c .before .before .before .before .loop in
     let t = reads termRow (a .rows) (drop (a .base) (a .bytes .now)) in
     let z = rows-length termRow (a .rows) (drop (a .base) (a .bytes .now)) in
-    (omega arith, sym (first-on noFuture t (l .i) [] _ (omega arith) (row-of-table (a .rows) (l .i) (a .base) (a .bytes .now) [] _ (omega arith) (c .before .before .row-at .ensures)) (no-future-if _ _ refl (c .if1 .left))) ∙ l .inv .1))
+    (omega arith, sym (first-on noFuture t (l .i) [] _ (omega arith) (row-of-table (a .rows) (l .i) (a .base) (a .bytes .now) [] _ (omega arith) (c .before .before .row-in .ensures)) (no-future-if _ _ refl (c .if1 .left))) ∙ l .inv .1))
     -- returns-2
     (λ c.
     let a = c .before .before .before .args in

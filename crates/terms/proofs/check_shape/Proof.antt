@@ -37,11 +37,11 @@ check-shape-spec =
     (λ c.
     let args = c .before .before .before .before .before .before .before .before .args in
     let loop = c .before .before .before .before .before .before .loop in
-    let row-at = c .before .before .before .before .row-at in
+    let row-in = c .before .before .before .before .row-in in
     let f = c .before .f in
     let row-fault = c .before .before .before .row-fault in
     let table = reads termRow (args .rows) (drop (args .base) (args .bytes .now)) in
-    let g = in-table (args .bytes .now) (args .base) (args .rows) (loop .i) (numbers (row-at .result)) (omega arith) (row-at .ensures) in
+    let g = in-table (args .bytes .now) (args .base) (args .rows) (loop .i) (numbers (row-in .result)) (omega arith) (row-in .ensures) in
     sym (shape-bad _ _ table (loop .i) (loop .owed) _ (g .0) (g .1) _ (sym (ap faultOf (f .given .1)) ∙ row-fault .ensures)) ∙ loop .inv .2)
     (λ c. search needs)
     (λ c. omega arith)
@@ -49,12 +49,12 @@ check-shape-spec =
     (λ c.
     let args = c .before .before .before .before .before .before .before .before .args in
     let loop = c .before .before .before .before .before .before .loop in
-    let row-at = c .before .before .before .before .row-at in
+    let row-in = c .before .before .before .before .row-in in
     let enum-told = c .before .enum-told in
     let row-fault = c .before .before .before .row-fault in
     let if1 = c .if1 in
     let table = reads termRow (args .rows) (drop (args .base) (args .bytes .now)) in
-    let g = in-table (args .bytes .now) (args .base) (args .rows) (loop .i) (numbers (row-at .result)) (omega arith) (row-at .ensures) in
+    let g = in-table (args .bytes .now) (args .base) (args .rows) (loop .i) (numbers (row-in .result)) (omega arith) (row-in .ensures) in
     sym (shape-behind _ _ table (loop .i) (loop .owed) _ (g .0) (g .1) (sym (ap faultOf (enum-told .given .1)) ∙ row-fault .ensures) (if1 .taken)) ∙
     loop .inv .2)
     (λ c. omega arith)
@@ -66,13 +66,13 @@ check-shape-spec =
     (λ c.
     let args = c .before .before .before .before .before .before .before .before .before .args in
     let loop = c .before .before .before .before .before .before .before .loop in
-    let row-at = c .before .before .before .before .before .row-at in
+    let row-in = c .before .before .before .before .before .row-in in
     let enum-told = c .before .before .enum-told in
     let row-fault = c .before .before .before .before .row-fault in
     let if1 = c .before .if1 in
     let children = c .children in
     let table = reads termRow (args .rows) (drop (args .base) (args .bytes .now)) in
-    let g = in-table (args .bytes .now) (args .base) (args .rows) (loop .i) (numbers (row-at .result)) (omega arith) (row-at .ensures) in
+    let g = in-table (args .bytes .now) (args .base) (args .rows) (loop .i) (numbers (row-in .result)) (omega arith) (row-in .ensures) in
     let s = shape-on _ _ table (loop .i) (loop .owed) _ (g .0) (g .1) (sym (ap faultOf (enum-told .given .1)) ∙ row-fault .ensures) (if1 .left) in
     (omega arith, omega (arith, children .ensures), rw (children .ensures .0) (sym s ∙ loop .inv .2)))
     (λ c. omega arith)

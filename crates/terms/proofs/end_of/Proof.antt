@@ -71,8 +71,8 @@ end-of-spec =
     let l = terms (a .bytes .now) (a .base) (a .rows) in
     let z : w .owed ≡ 0 → ⊥ = omega (arith, c .before .before .loop-test .taken) in
     let some = owed-some l (w .i) (w .owed) z in
-    let r = c .before .row-at .result in
-    let g = row-in (a .bytes .now) (a .base) (a .rows) (w .i) (numbers r) (omega (arith, p .2, w .inv .0)) (c .before .row-at .ensures) in
+    let r = c .before .row-in .result in
+    let g = row-in (a .bytes .now) (a .base) (a .rows) (w .i) (numbers r) (omega (arith, p .2, w .inv .0)) (c .before .row-in .ensures) in
     let s = owed-step l (w .i) (w .owed) z (rowOf (numbers r)) (g .0) (g .1) in
     let e : w .owed - 1 + c .children .result ≡ w .owed - 1 + arity (rowOf (numbers r) .head) = ap (λ (x : ℕ). w .owed - 1 + x) (c .children .ensures .0) in
     (ap (λ (x : ℕ). w .i + 1 + sizes (grove l (w .i + 1) x)) e ∙ sym s ∙ w .inv .0, omega (arith, w .inv .1, c .children .ensures .1)))

@@ -34,20 +34,20 @@ ends-spec =
     (λ c κs.
     let args = c .before .before .before .before .before .before .before .args in
     let loop = c .before .before .before .before .loop in
-    let row-at = c .before .before .row-at in
+    let row-in = c .before .before .row-in in
     let pre = c .before .before .before .before .before .before .before .pre in
     let children = c .before .children in
-    past-in (args .bytes .now) (args .base) (args .rows) (loop .j - 1) (numbers (row-at .result)) (omega arith) (row-at .ensures) (pre .3) (loop
+    past-in (args .bytes .now) (args .base) (args .rows) (loop .j - 1) (numbers (row-in .result)) (omega arith) (row-in .ensures) (pre .3) (loop
     .ends) (loop .j) (children .result) (loop .inv .2) (omega arith) (children .ensures .0) (omega arith))
     -- cast-ends
     (λ c.
     let past = c .past in
     let args = c .before .before .before .before .before .before .before .before .args in
     let loop = c .before .before .before .before .before .loop in
-    let row-at = c .before .before .before .row-at in
+    let row-in = c .before .before .before .row-in in
     let pre = c .before .before .before .before .before .before .before .before .pre in
     let children = c .before .before .children in
-    let e = past .ensures ∙ past-at (args .bytes .now) (args .base) (args .rows) (loop .j - 1) (numbers (row-at .result)) (omega arith) (row-at
+    let e = past .ensures ∙ past-at (args .bytes .now) (args .base) (args .rows) (loop .j - 1) (numbers (row-in .result)) (omega arith) (row-in
     .ensures) (pre .3) (loop .ends) (loop .j) (children .result) (loop .inv .2) (omega arith) (children .ensures .0) in
     let w = pre .3 .within (loop .j - 1) (omega arith) in
     omega arith)
@@ -62,10 +62,10 @@ ends-spec =
     let past = c .past in
     let args = c .before .before .before .before .before .before .before .before .args in
     let loop = c .before .before .before .before .before .loop in
-    let row-at = c .before .before .before .row-at in
+    let row-in = c .before .before .before .row-in in
     let pre = c .before .before .before .before .before .before .before .before .pre in
     let children = c .before .before .children in
-    let e = past .ensures ∙ past-at (args .bytes .now) (args .base) (args .rows) (loop .j - 1) (numbers (row-at .result)) (omega arith) (row-at
+    let e = past .ensures ∙ past-at (args .bytes .now) (args .base) (args .rows) (loop .j - 1) (numbers (row-in .result)) (omega arith) (row-in
     .ensures) (pre .3) (loop .ends) (loop .j) (children .result) (loop .inv .2) (omega arith) (children .ensures .0) in
     let w = pre .3 .within (loop .j - 1) (omega arith) in (
       omega arith,

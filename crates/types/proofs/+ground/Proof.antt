@@ -12,9 +12,9 @@ use borrow.Fn.PlainCycle.{Measures, is, falls, and}
 use Rattle.types.proofs.ground.Reads as ground
 use Rattle.types.proofs.ground.Kinds as ground-kinds
 use Rattle.types.proofs.+ground.Lts-ground as ground-lts
-use Rattle.layout.proofs.form_no.Reads as form-no-reads
-use Rattle.layout.proofs.result_no.Reads as result-no-reads
-use Rattle.layout.proofs.type_no.Reads as type-no-reads
+use Rattle.layout.proofs.form_in.Reads as form-no-reads
+use Rattle.layout.proofs.result_in.Reads as result-no-reads
+use Rattle.layout.proofs.type_in.Reads as type-no-reads
 use Rattle.types.proofs.part_count.Reads as part-count-reads
 use Rattle.types.proofs.remember.Reads as remember-reads
 use Rattle.types.proofs.+ground.{statement}
@@ -66,7 +66,7 @@ pub +ground-spec : {M : Type 1} → statement M
     let form = formOf (table (a .types .now) (a .base) (a .count)) in
     let r = typeAt (a .types .now) (a .base) (a .t) in
     let w = form-row (a .types .now) (a .base) (a .count) (a .t) (omega (arith, c .before .before .before .before .before .before .before .pre .1 .2)) in
-    tells (a .known .now) form (c .before .before .before .before .before .before .before .pre .1 .3) (a .t) _ _ _ (c .remember .ensures) (ground-low form (a .t) r w _ (c .before .before .before .form-no .ensures) (c .before .before .if2 .taken)))
+    tells (a .known .now) form (c .before .before .before .before .before .before .before .pre .1 .3) (a .t) _ _ _ (c .remember .ensures) (ground-low form (a .t) r w _ (c .before .before .before .form-in .ensures) (c .before .before .if2 .taken)))
     (λ c κs. omega arith)
     (λ c. omega arith)
     (λ c κs. omega arith)
@@ -76,7 +76,7 @@ pub +ground-spec : {M : Type 1} → statement M
     let form = formOf (table (a .types .now) (a .base) (a .count)) in
     let r = typeAt (a .types .now) (a .base) (a .t) in
     let w = form-row (a .types .now) (a .base) (a .count) (a .t) (omega (arith, c .before .before .before .before .before .before .before .before .before .before .pre .1 .2)) in
-    tells (a .known .now) form (c .before .before .before .before .before .before .before .before .before .before .pre .1 .3) (a .t) _ _ _ (c .remember2 .ensures) (ground-list form (a .t) r w _ (c .before .before .before .before .before .before .form-no .ensures) (c .before .before .before .before .if3 .taken) ∙ ap (partGround form (a .t)) (sym (c .before .before .before .result-no .ensures)) ∙ part-high form (a .t) _ (c .before .before .if4 .taken)))
+    tells (a .known .now) form (c .before .before .before .before .before .before .before .before .before .before .pre .1 .3) (a .t) _ _ _ (c .remember2 .ensures) (ground-list form (a .t) r w _ (c .before .before .before .before .before .before .form-in .ensures) (c .before .before .before .before .if3 .taken) ∙ ap (partGround form (a .t)) (sym (c .before .before .before .result-in .ensures)) ∙ part-high form (a .t) _ (c .before .before .if4 .taken)))
     -- ground-ground-requires
     (λ c κs. (omega (arith, c .before .before .before .before .before .before .before .before .before .pre .0), (omega (arith, c .before .before .before .before .before .before .before .before .before .pre .1 .0), omega (arith, c .before .before .before .before .before .before .before .before .before .pre .1 .1), omega (arith, c .before .before .before .before .before .before .before .before .before .pre .1 .2), c .before .before .before .before .before .before .before .before .before .pre .1 .3)))
     (λ c κs. omega arith)
@@ -86,7 +86,7 @@ pub +ground-spec : {M : Type 1} → statement M
     let form = formOf (table (a .types .now) (a .base) (a .count)) in
     let r = typeAt (a .types .now) (a .base) (a .t) in
     let w = form-row (a .types .now) (a .base) (a .count) (a .t) (omega (arith, c .before .before .before .before .before .before .before .before .before .before .before .before .pre .1 .2)) in
-    tells _ form (c .before .before .ground .ensures .memo) (a .t) _ _ _ (c .remember3 .ensures) (ground-list form (a .t) r w _ (c .before .before .before .before .before .before .before .before .form-no .ensures) (c .before .before .before .before .before .before .if3 .taken) ∙ ap (partGround form (a .t)) (sym (c .before .before .before .before .before .result-no .ensures)) ∙ part-low form (a .t) _ (c .before .before .before .before .if4 .left) ∙ sym (c .before .before .ground .ensures .answer)))
+    tells _ form (c .before .before .ground .ensures .memo) (a .t) _ _ _ (c .remember3 .ensures) (ground-list form (a .t) r w _ (c .before .before .before .before .before .before .before .before .form-in .ensures) (c .before .before .before .before .before .before .if3 .taken) ∙ ap (partGround form (a .t)) (sym (c .before .before .before .before .before .result-in .ensures)) ∙ part-low form (a .t) _ (c .before .before .before .before .if4 .left) ∙ sym (c .before .before .ground .ensures .answer)))
     (λ c κs. omega arith)
     -- ground-returns-5
     (λ c.
@@ -94,7 +94,7 @@ pub +ground-spec : {M : Type 1} → statement M
     let form = formOf (table (a .types .now) (a .base) (a .count)) in
     let r = typeAt (a .types .now) (a .base) (a .t) in
     let w = form-row (a .types .now) (a .base) (a .count) (a .t) (omega (arith, c .before .before .before .before .before .before .before .before .before .pre .1 .2)) in
-    tells (a .known .now) form (c .before .before .before .before .before .before .before .before .before .pre .1 .3) (a .t) _ _ _ (c .remember4 .ensures) (ground-other form (a .t) r w _ (c .before .before .before .before .before .form-no .ensures) (c .before .before .before .before .if2 .left) (c .before .before .before .if3 .left) (c .before .before .if5 .taken)))
+    tells (a .known .now) form (c .before .before .before .before .before .before .before .before .before .pre .1 .3) (a .t) _ _ _ (c .remember4 .ensures) (ground-other form (a .t) r w _ (c .before .before .before .before .before .form-in .ensures) (c .before .before .before .before .if2 .left) (c .before .before .before .if3 .left) (c .before .before .if5 .taken)))
     (λ c κs. omega arith)
     -- ground-loop-holds
     (λ c. (omega arith, refl, c .before .before .before .before .before .before .before .before .pre .1 .3))
@@ -121,7 +121,7 @@ pub +ground-spec : {M : Type 1} → statement M
     let z = row-length (drop (a .base + 36 * a .t) (a .types .now)) in
     let n = types-length (parts r) in
     let m = c .before .before .before .before .before .before .part-count .ensures in
-    tells (l .known) form (l .inv .2) (a .t) _ _ _ (c .remember5 .ensures) (ground-tuple form (a .t) r w _ (c .before .before .before .before .before .before .before .before .before .before .form-no .ensures) (c .before .before .before .before .before .before .before .if5 .left) ∙ sym (l .inv .1) ∙ every-no (partGround form (a .t)) (typesOf (parts r)) (l .k) _ (omega arith) (part-type r z (l .k) (omega arith) ∙ sym (c .before .before .before .type-no .ensures)) (part-high form (a .t) _ (c .before .before .if6 .taken))))
+    tells (l .known) form (l .inv .2) (a .t) _ _ _ (c .remember5 .ensures) (ground-tuple form (a .t) r w _ (c .before .before .before .before .before .before .before .before .before .before .form-in .ensures) (c .before .before .before .before .before .before .before .if5 .left) ∙ sym (l .inv .1) ∙ every-no (partGround form (a .t)) (typesOf (parts r)) (l .k) _ (omega arith) (part-type r z (l .k) (omega arith) ∙ sym (c .before .before .before .type-in .ensures)) (part-high form (a .t) _ (c .before .before .if6 .taken))))
     -- ground-ground-requires-2
     (λ c κs. (omega (arith, c .before .before .before .before .before .before .before .before .before .before .before .before .before .pre .0), (omega (arith, c .before .before .before .before .before .before .before .before .before .before .before .before .before .pre .1 .0), omega (arith, c .before .before .before .before .before .before .before .before .before .before .before .before .before .pre .1 .1), omega (arith, c .before .before .before .before .before .before .before .before .before .before .before .before .before .pre .1 .2), c .before .before .before .before .loop .inv .2)))
     (λ c. omega arith)
@@ -136,7 +136,7 @@ pub +ground-spec : {M : Type 1} → statement M
     let z = row-length (drop (a .base + 36 * a .t) (a .types .now)) in
     let n = types-length (parts r) in
     let m = c .before .before .before .before .before .before .before .part-count .ensures in
-    (omega arith, sym (every-on (partGround form (a .t)) (typesOf (parts r)) (l .k) _ (omega arith) (part-type r z (l .k) (omega arith) ∙ sym (c .before .before .before .before .type-no .ensures)) (part-low form (a .t) _ (c .before .before .before .if6 .left) ∙ sym (c .before .ground2 .ensures .answer) ∙ c .if7 .taken)) ∙ l .inv .1, c .before .ground2 .ensures .memo))
+    (omega arith, sym (every-on (partGround form (a .t)) (typesOf (parts r)) (l .k) _ (omega arith) (part-type r z (l .k) (omega arith) ∙ sym (c .before .before .before .before .type-in .ensures)) (part-low form (a .t) _ (c .before .before .before .if6 .left) ∙ sym (c .before .ground2 .ensures .answer) ∙ c .if7 .taken)) ∙ l .inv .1, c .before .ground2 .ensures .memo))
     (λ c κs. omega arith)
     -- ground-returns-7
     (λ c.
@@ -148,7 +148,7 @@ pub +ground-spec : {M : Type 1} → statement M
     let z = row-length (drop (a .base + 36 * a .t) (a .types .now)) in
     let n = types-length (parts r) in
     let m = c .before .before .before .before .before .before .before .before .before .part-count .ensures in
-    tells _ form (c .before .before .before .ground2 .ensures .memo) (a .t) _ _ _ (c .remember6 .ensures) (ground-tuple form (a .t) r w _ (c .before .before .before .before .before .before .before .before .before .before .before .before .before .form-no .ensures) (c .before .before .before .before .before .before .before .before .before .before .if5 .left) ∙ sym (l .inv .1) ∙ every-no (partGround form (a .t)) (typesOf (parts r)) (l .k) _ (omega arith) (part-type r z (l .k) (omega arith) ∙ sym (c .before .before .before .before .before .before .type-no .ensures)) (part-low form (a .t) _ (c .before .before .before .before .before .if6 .left) ∙ sym (c .before .before .before .ground2 .ensures .answer) ∙ c .before .before .if7 .left)))
+    tells _ form (c .before .before .before .ground2 .ensures .memo) (a .t) _ _ _ (c .remember6 .ensures) (ground-tuple form (a .t) r w _ (c .before .before .before .before .before .before .before .before .before .before .before .before .before .form-in .ensures) (c .before .before .before .before .before .before .before .before .before .before .if5 .left) ∙ sym (l .inv .1) ∙ every-no (partGround form (a .t)) (typesOf (parts r)) (l .k) _ (omega arith) (part-type r z (l .k) (omega arith) ∙ sym (c .before .before .before .before .before .before .type-in .ensures)) (part-low form (a .t) _ (c .before .before .before .before .before .if6 .left) ∙ sym (c .before .before .before .ground2 .ensures .answer) ∙ c .before .before .if7 .left)))
     (λ c κs. omega arith)
     -- ground-returns-8
     (λ c.
@@ -160,4 +160,4 @@ pub +ground-spec : {M : Type 1} → statement M
     let z = row-length (drop (a .base + 36 * a .t) (a .types .now)) in
     let n = types-length (parts r) in
     let m = c .before .before .before .before .part-count .ensures in
-    tells (l .known) form (l .inv .2) (a .t) _ _ _ (c .remember7 .ensures) (ground-tuple form (a .t) r w _ (c .before .before .before .before .before .before .before .before .form-no .ensures) (c .before .before .before .before .before .if5 .left) ∙ sym (l .inv .1) ∙ every-end (partGround form (a .t)) (typesOf (parts r)) (l .k) (omega arith)))
+    tells (l .known) form (l .inv .2) (a .t) _ _ _ (c .remember7 .ensures) (ground-tuple form (a .t) r w _ (c .before .before .before .before .before .before .before .before .form-in .ensures) (c .before .before .before .before .before .if5 .left) ∙ sym (l .inv .1) ∙ every-end (partGround form (a .t)) (typesOf (parts r)) (l .k) (omega arith)))

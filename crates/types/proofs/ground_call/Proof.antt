@@ -18,7 +18,7 @@ ground-call-spec =
     let a = c .before .before .before .args in
     let form = formOf (table (a .types .now) (a .base) (a .count)) in
     let r = typeAt (a .types .now) (a .base) (a .t) in
-    record { answer = sym (call-other form r _ (c .before .form-no .ensures) (c .if1 .taken)); memo = c .before .before .before .pre .3 })
+    record { answer = sym (call-other form r _ (c .before .form-in .ensures) (c .if1 .taken)); memo = c .before .before .before .pre .3 })
     (λ c κs. search needs)
     (λ c. search needs)
     -- ground-at-requires
@@ -30,10 +30,10 @@ ground-call-spec =
     let a = c .before .before .before .before .before .before .before .before .before .args in
     let form = formOf (table (a .types .now) (a .base) (a .count)) in
     let r = typeAt (a .types .now) (a .base) (a .t) in
-    record { answer = c .parts-ground .ensures .answer ∙ sym (call-parts form r _ (c .before .before .before .before .before .before .before .form-no .ensures) (c .before .before .before .before .before .before .if1 .left) _ (c .before .before .before .before .before .result-no .ensures) (sym (c .before .before .before .ground-at .ensures .answer) ∙ c .before .before .if2 .taken)); memo = c .parts-ground .ensures .memo })
+    record { answer = c .parts-ground .ensures .answer ∙ sym (call-parts form r _ (c .before .before .before .before .before .before .before .form-in .ensures) (c .before .before .before .before .before .before .if1 .left) _ (c .before .before .before .before .before .result-in .ensures) (sym (c .before .before .before .ground-at .ensures .answer) ∙ c .before .before .if2 .taken)); memo = c .parts-ground .ensures .memo })
     -- returns-3
     (λ c.
     let a = c .before .before .before .before .before .before .before .args in
     let form = formOf (table (a .types .now) (a .base) (a .count)) in
     let r = typeAt (a .types .now) (a .base) (a .t) in
-    record { answer = sym (call-result form r _ (c .before .before .before .before .before .form-no .ensures) (c .before .before .before .before .if1 .left) _ (c .before .before .before .result-no .ensures) (sym (c .before .ground-at .ensures .answer) ∙ c .if2 .left)); memo = c .before .ground-at .ensures .memo }))
+    record { answer = sym (call-result form r _ (c .before .before .before .before .before .form-in .ensures) (c .before .before .before .before .if1 .left) _ (c .before .before .before .result-in .ensures) (sym (c .before .ground-at .ensures .answer) ∙ c .if2 .left)); memo = c .before .ground-at .ensures .memo }))

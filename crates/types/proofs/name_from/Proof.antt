@@ -31,7 +31,7 @@ name-from-spec =
     let r = typeAt (a .types .now) (a .base) (a .t) in
     let z = row-length (drop (a .base + 36 * a .t) (a .types .now)) in
     let m = first-names r z (a .n) (omega arith) in
-    sym (member-yes (firstNames (a .n) r) (l .j) _ (omega arith) (first-name r z (a .n) (omega arith) (l .j) (omega arith) ∙ sym (c .before .name-no .ensures)) (a .x) (c .if1 .taken)) ∙ l .inv .1)
+    sym (member-yes (firstNames (a .n) r) (l .j) _ (omega arith) (first-name r z (a .n) (omega arith) (l .j) (omega arith) ∙ sym (c .before .name-in .ensures)) (a .x) (c .if1 .taken)) ∙ l .inv .1)
     (λ c. omega arith)
     (λ c. omega arith)
     -- loop-again
@@ -41,7 +41,7 @@ name-from-spec =
     let r = typeAt (a .types .now) (a .base) (a .t) in
     let z = row-length (drop (a .base + 36 * a .t) (a .types .now)) in
     let m = first-names r z (a .n) (omega arith) in
-    (omega arith, sym (member-on (firstNames (a .n) r) (l .j) _ (omega arith) (first-name r z (a .n) (omega arith) (l .j) (omega arith) ∙ sym (c .before .name-no .ensures)) (a .x) (c .if1 .left)) ∙ l .inv .1))
+    (omega arith, sym (member-on (firstNames (a .n) r) (l .j) _ (omega arith) (first-name r z (a .n) (omega arith) (l .j) (omega arith) ∙ sym (c .before .name-in .ensures)) (a .x) (c .if1 .left)) ∙ l .inv .1))
     -- returns-2
     (λ c.
     let a = c .before .before .before .args in

@@ -30,7 +30,7 @@ names-ok-spec =
     let r = typeAt (a .types .now) (a .base) (a .t) in
     let z = row-length (drop (a .base + 36 * a .t) (a .types .now)) in
     let m = first-names r z (a .n) (omega arith) in
-    sym (names-zero (firstNames (a .n) r) (l .k) _ (omega arith) (first-name r z (a .n) (omega arith) (l .k) (omega arith) ∙ sym (c .before .name-no .ensures)) (c .if1 .taken)) ∙ l .inv)
+    sym (names-zero (firstNames (a .n) r) (l .k) _ (omega arith) (first-name r z (a .n) (omega arith) (l .k) (omega arith) ∙ sym (c .before .name-in .ensures)) (c .if1 .taken)) ∙ l .inv)
     (λ c. omega arith)
     (λ c κs. omega arith)
     -- returns-2
@@ -40,7 +40,7 @@ names-ok-spec =
     let r = typeAt (a .types .now) (a .base) (a .t) in
     let z = row-length (drop (a .base + 36 * a .t) (a .types .now)) in
     let m = first-names r z (a .n) (omega arith) in
-    sym (names-twice (firstNames (a .n) r) (l .k) _ (omega arith) (first-name r z (a .n) (omega arith) (l .k) (omega arith) ∙ sym (c .before .before .before .name-no .ensures)) (sym (c .before .name-from .ensures) ∙ c .if2 .taken)) ∙ l .inv)
+    sym (names-twice (firstNames (a .n) r) (l .k) _ (omega arith) (first-name r z (a .n) (omega arith) (l .k) (omega arith) ∙ sym (c .before .before .before .name-in .ensures)) (sym (c .before .name-from .ensures) ∙ c .if2 .taken)) ∙ l .inv)
     (λ c. omega arith)
     (λ c. omega arith)
     -- loop-again
@@ -50,7 +50,7 @@ names-ok-spec =
     let r = typeAt (a .types .now) (a .base) (a .t) in
     let z = row-length (drop (a .base + 36 * a .t) (a .types .now)) in
     let m = first-names r z (a .n) (omega arith) in
-    sym (names-on (firstNames (a .n) r) (l .k) _ (omega arith) (first-name r z (a .n) (omega arith) (l .k) (omega arith) ∙ sym (c .before .before .before .name-no .ensures)) (c .before .before .if1 .left) (sym (c .before .name-from .ensures) ∙ c .if2 .left)) ∙ l .inv)
+    sym (names-on (firstNames (a .n) r) (l .k) _ (omega arith) (first-name r z (a .n) (omega arith) (l .k) (omega arith) ∙ sym (c .before .before .before .name-in .ensures)) (c .before .before .if1 .left) (sym (c .before .name-from .ensures) ∙ c .if2 .left)) ∙ l .inv)
     -- returns-3
     (λ c.
     let a = c .before .before .before .args in

@@ -31,7 +31,7 @@ names-zero-spec =
     let r = typeAt (a .types .now) (a .base) (a .t) in
     let z = row-length (drop (a .base + 36 * a .t) (a .types .now)) in
     let m = first-names r z (a .n) (omega arith) in
-    sym (zeros-no (firstNames (a .n) r) (l .k) _ (omega arith) (first-name r z (a .n) (omega arith) (l .k) (omega arith) ∙ sym (c .before .name-no .ensures)) (c .if1 .taken)) ∙ l .inv)
+    sym (zeros-no (firstNames (a .n) r) (l .k) _ (omega arith) (first-name r z (a .n) (omega arith) (l .k) (omega arith) ∙ sym (c .before .name-in .ensures)) (c .if1 .taken)) ∙ l .inv)
     (λ c. omega arith)
     (λ c. omega arith)
     -- loop-again
@@ -41,7 +41,7 @@ names-zero-spec =
     let r = typeAt (a .types .now) (a .base) (a .t) in
     let z = row-length (drop (a .base + 36 * a .t) (a .types .now)) in
     let m = first-names r z (a .n) (omega arith) in
-    sym (zeros-on (firstNames (a .n) r) (l .k) _ (omega arith) (first-name r z (a .n) (omega arith) (l .k) (omega arith) ∙ sym (c .before .name-no .ensures)) (c .if1 .left)) ∙ l .inv)
+    sym (zeros-on (firstNames (a .n) r) (l .k) _ (omega arith) (first-name r z (a .n) (omega arith) (l .k) (omega arith) ∙ sym (c .before .name-in .ensures)) (c .if1 .left)) ∙ l .inv)
     -- returns-2
     (λ c.
     let a = c .before .before .before .args in

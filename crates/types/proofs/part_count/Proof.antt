@@ -14,9 +14,9 @@ part-count-spec = tie.close (tie.spec (λ c κs. search needs) (λ c. search nee
     let a = c .before .before .before .args in
     let r = typeAt (a .types .now) (a .base) (a .t) in
     let z = row-length (drop (a .base + 36 * a .t) (a .types .now)) in
-    omega (arith, parts-length r z (c .before .parts-no .result) (c .before .parts-no .ensures)))  -- returns-2
+    omega (arith, parts-length r z (c .before .parts-in .result) (c .before .parts-in .ensures)))  -- returns-2
     (λ c.
     let a = c .before .before .before .args in
     let r = typeAt (a .types .now) (a .base) (a .t) in
     let z = row-length (drop (a .base + 36 * a .t) (a .types .now)) in
-    omega (arith, parts-length r z (c .before .parts-no .result) (c .before .parts-no .ensures))))
+    omega (arith, parts-length r z (c .before .parts-in .result) (c .before .parts-in .ensures))))

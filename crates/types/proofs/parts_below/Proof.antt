@@ -32,7 +32,7 @@ parts-below-spec =
     let r = typeAt (a .types .now) (a .base) (a .t) in
     let z = row-length (drop (a .base + 36 * a .t) (a .types .now)) in
     let m = first-types r z (a .n) (omega arith) in
-    sym (below-no (firstTypes (a .n) r) (l .k) _ (omega arith) (first-type r z (a .n) (omega arith) (l .k) (omega arith) ∙ sym (c .before .type-no .ensures)) (a .t) (c .if1 .taken)) ∙ l .inv)
+    sym (below-no (firstTypes (a .n) r) (l .k) _ (omega arith) (first-type r z (a .n) (omega arith) (l .k) (omega arith) ∙ sym (c .before .type-in .ensures)) (a .t) (c .if1 .taken)) ∙ l .inv)
     (λ c. omega arith)
     (λ c. omega arith)
     -- loop-again
@@ -42,7 +42,7 @@ parts-below-spec =
     let r = typeAt (a .types .now) (a .base) (a .t) in
     let z = row-length (drop (a .base + 36 * a .t) (a .types .now)) in
     let m = first-types r z (a .n) (omega arith) in
-    sym (below-on (firstTypes (a .n) r) (l .k) _ (omega arith) (first-type r z (a .n) (omega arith) (l .k) (omega arith) ∙ sym (c .before .type-no .ensures)) (a .t) (c .if1 .left)) ∙ l .inv)
+    sym (below-on (firstTypes (a .n) r) (l .k) _ (omega arith) (first-type r z (a .n) (omega arith) (l .k) (omega arith) ∙ sym (c .before .type-in .ensures)) (a .t) (c .if1 .left)) ∙ l .inv)
     -- returns-2
     (λ c.
     let a = c .before .before .before .args in

@@ -50,7 +50,7 @@ parts-ground-spec =
     let z = row-length (drop (a .base + 36 * a .t) (a .types .now)) in
     let n = types-length (parts r) in
     let m = c .before .before .before .before .before .before .part-count .ensures in
-    (omega arith, sym (every-on (ground form) (typesOf (parts r)) (l .k) _ (omega arith) (part-type r z (l .k) (omega arith) ∙ sym (c .before .before .before .type-no .ensures)) (sym (c .before .ground-at .ensures .answer) ∙ c .if1 .taken)) ∙ l .inv .1, c .before .ground-at .ensures .memo))
+    (omega arith, sym (every-on (ground form) (typesOf (parts r)) (l .k) _ (omega arith) (part-type r z (l .k) (omega arith) ∙ sym (c .before .before .before .type-in .ensures)) (sym (c .before .ground-at .ensures .answer) ∙ c .if1 .taken)) ∙ l .inv .1, c .before .ground-at .ensures .memo))
     -- returns
     (λ c.
     let a = c .before .before .before .before .before .before .before .before .args in
@@ -60,7 +60,7 @@ parts-ground-spec =
     let z = row-length (drop (a .base + 36 * a .t) (a .types .now)) in
     let n = types-length (parts r) in
     let m = c .before .before .before .before .before .before .part-count .ensures in
-    record { answer = sym (every-no (ground form) (typesOf (parts r)) (l .k) _ (omega arith) (part-type r z (l .k) (omega arith) ∙ sym (c .before .before .before .type-no .ensures)) (sym (c .before .ground-at .ensures .answer) ∙ c .if1 .left)) ∙ l .inv .1; memo = c .before .ground-at .ensures .memo })
+    record { answer = sym (every-no (ground form) (typesOf (parts r)) (l .k) _ (omega arith) (part-type r z (l .k) (omega arith) ∙ sym (c .before .before .before .type-in .ensures)) (sym (c .before .ground-at .ensures .answer) ∙ c .if1 .left)) ∙ l .inv .1; memo = c .before .ground-at .ensures .memo })
     -- returns-2
     (λ c.
     let a = c .before .before .before .before .args in

@@ -30,7 +30,7 @@ rest-zero-spec =
     let l = c .before .before .before .loop in
     let r = typeAt (a .types .now) (a .base) (a .t) in
     let z = row-length (drop (a .base + 36 * a .t) (a .types .now)) in
-    sym (rest-name r z (l .k) _ (omega arith) (c .before .name-no .ensures) (c .if1 .taken)) ∙ l .inv)
+    sym (rest-name r z (l .k) _ (omega arith) (c .before .name-in .ensures) (c .if1 .taken)) ∙ l .inv)
     (λ c κs. omega arith)
     -- returns-2
     (λ c.
@@ -38,7 +38,7 @@ rest-zero-spec =
     let l = c .before .before .before .before .before .loop in
     let r = typeAt (a .types .now) (a .base) (a .t) in
     let z = row-length (drop (a .base + 36 * a .t) (a .types .now)) in
-    sym (rest-type r z (l .k) _ _ (omega arith) (c .before .before .before .name-no .ensures) (c .before .before .if1 .left) (c .before .type-no .ensures) (c .if2 .taken)) ∙ l .inv)
+    sym (rest-type r z (l .k) _ _ (omega arith) (c .before .before .before .name-in .ensures) (c .before .before .if1 .left) (c .before .type-in .ensures) (c .if2 .taken)) ∙ l .inv)
     (λ c. omega arith)
     (λ c. omega arith)
     -- loop-again
@@ -47,7 +47,7 @@ rest-zero-spec =
     let l = c .before .before .before .before .before .loop in
     let r = typeAt (a .types .now) (a .base) (a .t) in
     let z = row-length (drop (a .base + 36 * a .t) (a .types .now)) in
-    sym (rest-on r z (l .k) _ _ (omega arith) (c .before .before .before .name-no .ensures) (c .before .before .if1 .left) (c .before .type-no .ensures) (c .if2 .left)) ∙ l .inv)
+    sym (rest-on r z (l .k) _ _ (omega arith) (c .before .before .before .name-in .ensures) (c .before .before .if1 .left) (c .before .type-in .ensures) (c .if2 .left)) ∙ l .inv)
     -- returns-3
     (λ c.
     let a = c .before .before .before .args in

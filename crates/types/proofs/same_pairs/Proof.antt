@@ -33,7 +33,7 @@ same-pairs-spec =
     let q = typeAt (a .types .now) (a .base) (a .u) in
     let z = row-length (drop (a .base + 36 * a .t) (a .types .now)) in
     let y = row-length (drop (a .base + 36 * a .u) (a .types .now)) in
-    sym (pair-name r q z y (l .k) (omega arith) _ _ (c .before .before .name-no .ensures) (c .before .name-no2 .ensures) (c .if1 .taken)) ∙ l .inv)
+    sym (pair-name r q z y (l .k) (omega arith) _ _ (c .before .before .name-in .ensures) (c .before .name-in2 .ensures) (c .if1 .taken)) ∙ l .inv)
     (λ c κs. omega arith)
     (λ c κs. omega arith)
     -- returns-2
@@ -44,7 +44,7 @@ same-pairs-spec =
     let q = typeAt (a .types .now) (a .base) (a .u) in
     let z = row-length (drop (a .base + 36 * a .t) (a .types .now)) in
     let y = row-length (drop (a .base + 36 * a .u) (a .types .now)) in
-    sym (pair-type r q z y (l .k) (omega arith) _ _ (c .before .before .before .before .before .name-no .ensures) (c .before .before .before .before .name-no2 .ensures) _ _ (c .before .before .before .if1 .left) (c .before .before .type-no .ensures) (c .before .type-no2 .ensures) (c .if2 .taken)) ∙ l .inv)
+    sym (pair-type r q z y (l .k) (omega arith) _ _ (c .before .before .before .before .before .name-in .ensures) (c .before .before .before .before .name-in2 .ensures) _ _ (c .before .before .before .if1 .left) (c .before .before .type-in .ensures) (c .before .type-in2 .ensures) (c .if2 .taken)) ∙ l .inv)
     (λ c. omega arith)
     (λ c. omega arith)
     -- loop-again
@@ -55,7 +55,7 @@ same-pairs-spec =
     let q = typeAt (a .types .now) (a .base) (a .u) in
     let z = row-length (drop (a .base + 36 * a .t) (a .types .now)) in
     let y = row-length (drop (a .base + 36 * a .u) (a .types .now)) in
-    sym (pair-on r q z y (l .k) (omega arith) _ _ (c .before .before .before .before .before .name-no .ensures) (c .before .before .before .before .name-no2 .ensures) _ _ (c .before .before .before .if1 .left) (c .before .before .type-no .ensures) (c .before .type-no2 .ensures) (c .if2 .left)) ∙ l .inv)
+    sym (pair-on r q z y (l .k) (omega arith) _ _ (c .before .before .before .before .before .name-in .ensures) (c .before .before .before .before .name-in2 .ensures) _ _ (c .before .before .before .if1 .left) (c .before .before .type-in .ensures) (c .before .type-in2 .ensures) (c .if2 .left)) ∙ l .inv)
     -- returns-3
     (λ c.
     let a = c .before .before .before .args in

@@ -24,7 +24,7 @@ type-ok-spec =
     let old = table (a .types .now) (a .base) (a .t) in
     let r = typeAt (a .types .now) (a .base) (a .t) in
     let z = rows-length typeRow (a .t) (drop (a .base) (a .types .now)) in
-    record { answer = sym (ok-none (a .edition) old r _ _ (c .before .form-no .ensures) refl (c .if1 .taken)); memo = c .before .before .before .pre .3 })
+    record { answer = sym (ok-none (a .edition) old r _ _ (c .before .form-in .ensures) refl (c .if1 .taken)); memo = c .before .before .before .pre .3 })
     (λ c κs. search needs)
     -- returns-2
     (λ c.
@@ -32,7 +32,7 @@ type-ok-spec =
     let old = table (a .types .now) (a .base) (a .t) in
     let r = typeAt (a .types .now) (a .base) (a .t) in
     let z = rows-length typeRow (a .t) (drop (a .base) (a .types .now)) in
-    record { answer = sym (ok-unknown (a .edition) old r _ _ (c .before .before .before .form-no .ensures) (c .before .last-form .ensures) (c .if2 .taken)); memo = c .before .before .before .before .before .pre .3 })
+    record { answer = sym (ok-unknown (a .edition) old r _ _ (c .before .before .before .form-in .ensures) (c .before .last-form .ensures) (c .if2 .taken)); memo = c .before .before .before .before .before .pre .3 })
     (λ c κs. search needs)
     (λ c κs. search needs)
     -- ground-call-requires
@@ -44,7 +44,7 @@ type-ok-spec =
     let r = typeAt (a .types .now) (a .base) (a .t) in
     let z = rows-length typeRow (a .t) (drop (a .base) (a .types .now)) in
     let f : fieldsOk (length old) r ≡ true = ap (λ (i : ℕ). fieldsOk i r) z ∙ sym (c .before .before .before .before .before .fields-ok .ensures) ∙ c .before .before .before .before .if3 .taken in
-    record { answer = c .ground-call .ensures .answer ∙ sym (ok-call (a .edition) old r _ _ (c .before .before .before .before .before .before .before .before .before .form-no .ensures) (c .before .before .before .before .before .before .before .last-form .ensures) (c .before .before .before .before .before .before .before .before .if1 .left) (c .before .before .before .before .before .before .if2 .left) f (sym (c .before .before .before .is-fresh .ensures) ∙ c .before .before .if4 .taken) ∙ call-agree (a .types .now) (a .base) (a .count) (a .t) r (omega arith) (sym (c .before .before .before .before .before .fields-ok .ensures) ∙ c .before .before .before .before .if3 .taken)); memo = c .ground-call .ensures .memo })
+    record { answer = c .ground-call .ensures .answer ∙ sym (ok-call (a .edition) old r _ _ (c .before .before .before .before .before .before .before .before .before .form-in .ensures) (c .before .before .before .before .before .before .before .last-form .ensures) (c .before .before .before .before .before .before .before .before .if1 .left) (c .before .before .before .before .before .before .if2 .left) f (sym (c .before .before .before .is-fresh .ensures) ∙ c .before .before .if4 .taken) ∙ call-agree (a .types .now) (a .base) (a .count) (a .t) r (omega arith) (sym (c .before .before .before .before .before .fields-ok .ensures) ∙ c .before .before .before .before .if3 .taken)); memo = c .ground-call .ensures .memo })
     -- returns-4
     (λ c.
     let a = c .before .before .before .before .before .before .before .before .before .args in
@@ -52,7 +52,7 @@ type-ok-spec =
     let r = typeAt (a .types .now) (a .base) (a .t) in
     let z = rows-length typeRow (a .t) (drop (a .base) (a .types .now)) in
     let f : fieldsOk (length old) r ≡ true = ap (λ (i : ℕ). fieldsOk i r) z ∙ sym (c .before .before .before .fields-ok .ensures) ∙ c .before .before .if3 .taken in
-    record { answer = sym (ok-twice (a .edition) old r _ _ (c .before .before .before .before .before .before .before .form-no .ensures) (c .before .before .before .before .before .last-form .ensures) (c .before .before .before .before .before .before .if1 .left) (c .before .before .before .before .if2 .left) f (sym (c .before .is-fresh .ensures) ∙ c .if4 .left)); memo = c .before .before .before .before .before .before .before .before .before .pre .3 })
+    record { answer = sym (ok-twice (a .edition) old r _ _ (c .before .before .before .before .before .before .before .form-in .ensures) (c .before .before .before .before .before .last-form .ensures) (c .before .before .before .before .before .before .if1 .left) (c .before .before .before .before .if2 .left) f (sym (c .before .is-fresh .ensures) ∙ c .if4 .left)); memo = c .before .before .before .before .before .before .before .before .before .pre .3 })
     -- returns-5
     (λ c.
     let a = c .before .before .before .before .before .before .before .args in
@@ -60,4 +60,4 @@ type-ok-spec =
     let r = typeAt (a .types .now) (a .base) (a .t) in
     let z = rows-length typeRow (a .t) (drop (a .base) (a .types .now)) in
     let f : fieldsOk (length old) r ≡ false = ap (λ (i : ℕ). fieldsOk i r) z ∙ sym (c .before .fields-ok .ensures) ∙ c .if3 .left in
-    record { answer = sym (ok-fields (a .edition) old r _ _ (c .before .before .before .before .before .form-no .ensures) (c .before .before .before .last-form .ensures) (c .before .before .before .before .if1 .left) (c .before .before .if2 .left) f); memo = c .before .before .before .before .before .before .before .pre .3 }))
+    record { answer = sym (ok-fields (a .edition) old r _ _ (c .before .before .before .before .before .form-in .ensures) (c .before .before .before .last-form .ensures) (c .before .before .before .before .if1 .left) (c .before .before .if2 .left) f); memo = c .before .before .before .before .before .before .before .pre .3 }))

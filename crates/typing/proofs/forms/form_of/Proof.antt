@@ -15,10 +15,10 @@ form-of-spec =
     (λ c κs. search needs)
     -- returns
     (λ c.
-    let form-no = c .form-no in
+    let form-in = c .form-in in
     let args = c .before .before .before .args in
     let if1 = c .before .if1 in
-    form-no .ensures ∙ sym (ap (λ (r : List ℕ). formNo r) (says-in (args .types .now) (args .base) (args .count) (args .t) (if1 .taken))))
+    form-in .ensures ∙ sym (ap (λ (r : List ℕ). formNo r) (says-in (args .types .now) (args .base) (args .count) (args .t) (if1 .taken))))
     -- returns-2
     (λ c.
     let args = c .before .before .args in

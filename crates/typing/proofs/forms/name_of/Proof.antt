@@ -23,8 +23,8 @@ name-of-spec =
     (λ c.
     let args = c .before .before .args in
     let pre = c .before .before .pre in
-    let name-no = c .name-no in
+    let name-in = c .name-in in
     let says = says (args .types .now) (args .base) (args .count) (args .t) in
     let q = part-in (args .types .now) (args .base) (args .count) (args .t) (args .k) (pre .1) in
-    name-no .ensures ∙ sym (name-part says (args .k) (pre .1) ∙ ap (λ (r : List ℕ). getD r (3 + 2 * args .k) 0) (says-in (args .types .now) (args
+    name-in .ensures ∙ sym (name-part says (args .k) (pre .1) ∙ ap (λ (r : List ℕ). getD r (3 + 2 * args .k) 0) (says-in (args .types .now) (args
     .base) (args .count) (args .t) (q .0)))))

@@ -19,10 +19,10 @@ parts-of-spec =
     -- returns
     (λ c.
     let few = c .few in
-    let parts-no = c .before .parts-no in
+    let parts-in = c .before .parts-in in
     let args = c .before .before .before .before .args in
     let if1 = c .before .before .if1 in
-    let e = few .ensures ∙ ap (λ (n : ℕ). min n 8) (parts-no .ensures) ∙ sym (parts-length _) ∙ sym (ap (λ (r : List ℕ). length (parts r)) (says-in
+    let e = few .ensures ∙ ap (λ (n : ℕ). min n 8) (parts-in .ensures) ∙ sym (parts-length _) ∙ sym (ap (λ (r : List ℕ). length (parts r)) (says-in
     (args .types .now) (args .base) (args .count) (args .t) (if1 .taken))) in (e, omega (arith, few .ensures)))
     -- returns-2
     (λ c.

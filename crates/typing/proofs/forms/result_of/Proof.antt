@@ -15,10 +15,10 @@ result-of-spec =
     (λ c κs. search needs)
     -- returns
     (λ c.
-    let result-no = c .result-no in
+    let result-in = c .result-in in
     let args = c .before .before .before .args in
     let if1 = c .before .if1 in
-    result-no .ensures ∙ sym (ap (λ (r : List ℕ). result r) (says-in (args .types .now) (args .base) (args .count) (args .t) (if1 .taken))))
+    result-in .ensures ∙ sym (ap (λ (r : List ℕ). result r) (says-in (args .types .now) (args .base) (args .count) (args .t) (if1 .taken))))
     -- returns-2
     (λ c.
     let args = c .before .before .args in

@@ -23,8 +23,8 @@ type-of-spec =
     (λ c.
     let args = c .before .before .args in
     let pre = c .before .before .pre in
-    let type-no = c .type-no in
+    let type-in = c .type-in in
     let says = says (args .types .now) (args .base) (args .count) (args .t) in
     let q = part-in (args .types .now) (args .base) (args .count) (args .t) (args .k) (pre .1) in
-    type-no .ensures ∙ sym (type-part says (args .k) (pre .1) ∙ ap (λ (r : List ℕ). getD r (4 + 2 * args .k) 0) (says-in (args .types .now) (args
+    type-in .ensures ∙ sym (type-part says (args .k) (pre .1) ∙ ap (λ (r : List ℕ). getD r (4 + 2 * args .k) 0) (says-in (args .types .now) (args
     .base) (args .count) (args .t) (q .0)))))

@@ -55,12 +55,12 @@ hand-on-spec =
     (λ c.
     let children = c .before .children in
     let args = c .before .before .before .before .before .before .args in
-    let row-at = c .before .before .row-at in
+    let row-in = c .before .before .row-in in
     let pre = c .before .before .before .before .before .before .pre in
     let l = termRows (args .bytes .now) (args .base) (args .rows) in
     let z : children .result - 0 ≡ children .result = omega arith in
-    let y = size-here (args .bytes .now) (args .base) (args .rows) (args .i) (numbers (row-at .result)) (pre .4) (row-at .ensures) in
-    let x : sizes (grove l (args .i + 1) (children .result)) ≡ sizes (grove l (args .i + 1) (arity (rowOf (numbers (row-at .result)) .head))) = ap (λ
+    let y = size-here (args .bytes .now) (args .base) (args .rows) (args .i) (numbers (row-in .result)) (pre .4) (row-in .ensures) in
+    let x : sizes (grove l (args .i + 1) (children .result)) ≡ sizes (grove l (args .i + 1) (arity (rowOf (numbers (row-in .result)) .head))) = ap (λ
     (x : ℕ). sizes (grove l (args .i + 1) x)) (children .ensures .0) in
     let c = pre .6 .within (args .i) (pre .4) in
     (omega arith, refl, rw z (omega arith), rw z refl))
@@ -134,9 +134,9 @@ hand-on-spec =
     let pre = c .before .before .before .before .before .before .before .before .before .before .before .pre in
     let inner = c .before .before .inner in
     let args = c .before .before .before .before .before .before .before .before .before .before .before .args in
-    let row-at = c .before .before .before .before .before .before .before .row-at in
+    let row-in = c .before .before .before .before .before .before .before .row-in in
     let l = termRows (args .bytes .now) (args .base) (args .rows) in
-    let v = innerOf (row-at .result .kind) (getD (args .scope .now) (args .i) 0) (args .i + 1) in
+    let v = innerOf (row-in .result .kind) (getD (args .scope .now) (args .i) 0) (args .i + 1) in
     let m = children .result - (loop .k + 1) in
     let e : children .result - loop .k ≡ suc m = omega arith in
     let z : sizes (grove l (loop .p) (children .result - loop .k)) ≡ size (treeAt l (loop .p)) + sizes (grove l (loop .p + size (treeAt l (loop .p)))
@@ -159,9 +159,9 @@ hand-on-spec =
     let loop = c .before .loop in
     let children = c .before .before .before .children in
     let args = c .before .before .before .before .before .before .before .before .args in
-    let row-at = c .before .before .before .before .row-at in
+    let row-in = c .before .before .before .before .row-in in
     let l = termRows (args .bytes .now) (args .base) (args .rows) in
-    let v = innerOf (row-at .result .kind) (getD (args .scope .now) (args .i) 0) (args .i + 1) in
+    let v = innerOf (row-in .result .kind) (getD (args .scope .now) (args .i) 0) (args .i + 1) in
     sym (hand-none l v (loop .k) (children .result - loop .k) (loop .p) (loop .scope) (omega arith)) ∙ loop .inv .3 ∙ ap (λ (x : ℕ). handOn l v 0 x
     (args .i + 1) (args .scope .now)) (children .ensures .0) ∙ ap (λ (r : List ℕ). handOn l (innerOf (kindNo r) (getD (args .scope .now) (args .i)
-    0) (args .i + 1)) 0 (arity (rowOf r .head)) (args .i + 1) (args .scope .now)) (row-at .ensures)))
+    0) (args .i + 1)) 0 (arity (rowOf r .head)) (args .i + 1) (args .scope .now)) (row-in .ensures)))

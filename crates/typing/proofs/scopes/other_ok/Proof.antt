@@ -39,21 +39,21 @@ other-ok-spec =
     -- fixed-ok-requires
     (λ c κs.
     let pre = c .before .before .before .before .before .before .before .before .before .pre in
-    let row-at = c .before .before .before .before .before .row-at in
-    let fixed = subst (λ (x : ℕ). FixedKind x) (sym (ap (λ (r : List ℕ). kindNo r) (row-at .ensures))) (pre .2) in
+    let row-in = c .before .before .before .before .before .row-in in
+    let fixed = subst (λ (x : ℕ). FixedKind x) (sym (ap (λ (r : List ℕ). kindNo r) (row-in .ensures))) (pre .2) in
     (pre .0 .types, fixed))
     -- returns
     (λ c. unfold rowOf in (
     let fixed-ok = c .fixed-ok in
     let args = c .before .before .before .before .before .before .before .before .before .before .args in
     let pre = c .before .before .before .before .before .before .before .before .before .before .pre in
-    let row-at = c .before .before .before .before .before .before .row-at in
+    let row-in = c .before .before .before .before .before .before .row-in in
     let next = c .before .before .before .before .before .next in
     let next2 = c .before .before .before .before .next2 in
     let type-at = c .before .before .before .type-at in
     let type-at2 = c .before .before .type-at2 in
     let type-at3 = c .before .type-at3 in
-    let fixed = subst (λ (x : ℕ). FixedKind x) (sym (ap (λ (r : List ℕ). kindNo r) (row-at .ensures))) (pre .2) in
+    let fixed = subst (λ (x : ℕ). FixedKind x) (sym (ap (λ (r : List ℕ). kindNo r) (row-in .ensures))) (pre .2) in
     fixed-ok .ensures ∙ sym (judged-other (args .types .now) (args .tbase) (args .count) (args .bytes .now) (args .base) (args .rows) (args .i) _ _ _
-    _ (pre .1) (row-at .ensures) (args .ends .now) (next .result) (next2 .result) (type-at .result) (type-at2 .result) (type-at3 .result) fixed
+    _ (pre .1) (row-in .ensures) (args .ends .now) (next .result) (next2 .result) (type-at .result) (type-at2 .result) (type-at3 .result) fixed
     (pre .0 .ends) (pre .0 .closed) (next .ensures) (next2 .ensures) (type-at .ensures) (type-at2 .ensures) (type-at3 .ensures)))))

@@ -40,7 +40,7 @@ variable-ok-spec =
     (λ c. unfold given in (
     let args = c .before .before .before .before .before .before .before .before .before .before .args in
     let pre = c .before .before .before .before .before .before .before .before .before .before .pre in
-    let row-at = c .before .before .before .before .before .before .row-at in
+    let row-in = c .before .before .before .before .before .before .row-in in
     let f = c .before .f in
     let lookup = c .before .before .before .lookup in
     let wide = c .before .before .before .before .wide in
@@ -48,13 +48,13 @@ variable-ok-spec =
     let l = termRows (args .bytes .now) (args .base) (args .rows) in
     let Γ = around F l (args .scope .now) (args .i) in
     sym (judged-variable (args .types .now) (args .tbase) (args .count) (args .bytes .now) (args .base) (args .rows) (args .i) _ _ _ _ (pre .4)
-    (row-at .ensures) Γ (ap (λ (r : List ℕ). kindNo r) (row-at .ensures) ∙ pre .5) ∙ ap (λ (o : Option ℕ). given o (row-at .result .ty)) (sym (sym
-    (ap named (f .given .1)) ∙ lookup .ensures ∙ ap (λ (v : ℕ). chain F l (args .scope .now) v v (row-at .result .word)) (wide .ensures))))))
+    (row-in .ensures) Γ (ap (λ (r : List ℕ). kindNo r) (row-in .ensures) ∙ pre .5) ∙ ap (λ (o : Option ℕ). given o (row-in .result .ty)) (sym (sym
+    (ap named (f .given .1)) ∙ lookup .ensures ∙ ap (λ (v : ℕ). chain F l (args .scope .now) v v (row-in .result .word)) (wide .ensures))))))
     -- returns-2
     (λ c. unfold given in (
     let args = c .before .before .before .before .before .before .before .before .before .args in
     let pre = c .before .before .before .before .before .before .before .before .before .pre in
-    let row-at = c .before .before .before .before .before .row-at in
+    let row-in = c .before .before .before .before .before .row-in in
     let enum-told = c .enum-told in
     let lookup = c .before .before .lookup in
     let wide = c .before .before .before .wide in
@@ -62,6 +62,6 @@ variable-ok-spec =
     let l = termRows (args .bytes .now) (args .base) (args .rows) in
     let Γ = around F l (args .scope .now) (args .i) in
     sym (judged-variable (args .types .now) (args .tbase) (args .count) (args .bytes .now) (args .base) (args .rows) (args .i) _ _ _ _ (pre .4)
-    (row-at .ensures) Γ (ap (λ (r : List ℕ). kindNo r) (row-at .ensures) ∙ pre .5) ∙ ap (λ (o : Option ℕ). given o (row-at .result .ty)) (sym (sym
-    (ap named (enum-told .given .1)) ∙ lookup .ensures ∙ ap (λ (v : ℕ). chain F l (args .scope .now) v v (row-at .result .word)) (wide
+    (row-in .ensures) Γ (ap (λ (r : List ℕ). kindNo r) (row-in .ensures) ∙ pre .5) ∙ ap (λ (o : Option ℕ). given o (row-in .result .ty)) (sym (sym
+    (ap named (enum-told .given .1)) ∙ lookup .ensures ∙ ap (λ (v : ℕ). chain F l (args .scope .now) v v (row-in .result .word)) (wide
     .ensures)))))))

@@ -14,8 +14,8 @@ is-native-spec =
     (λ c.
     let args = c .before .before .before .before .args in
     let if1 = c .before .before .if1 in
-    let row-at = c .before .row-at in
-    sym (native-in (args .bytes .now) (args .base) (args .rows) (args .p) _ _ _ _ (if1 .taken) (row-at .ensures)))
+    let row-in = c .before .row-in in
+    sym (native-in (args .bytes .now) (args .base) (args .rows) (args .p) _ _ _ _ (if1 .taken) (row-in .ensures)))
     -- returns-2
     (λ c.
     let args = c .before .before .args in

@@ -14,8 +14,8 @@ type-at-spec =
     (λ c.
     let args = c .before .before .before .args in
     let if1 = c .before .if1 in
-    let row-at = c .row-at in
-    sym (type-in (args .bytes .now) (args .base) (args .rows) (args .p) _ _ _ _ (if1 .taken) (row-at .ensures)))
+    let row-in = c .row-in in
+    sym (type-in (args .bytes .now) (args .base) (args .rows) (args .p) _ _ _ _ (if1 .taken) (row-in .ensures)))
     -- returns-2
     (λ c.
     let args = c .before .before .args in

@@ -1,0 +1,13 @@
+-- `layout::name_in` meets its contract: two bytes of the k-th pair. Assumes nothing.
+use mathlib.Core.Path.{sym, _∙_}
+use native.Mathlib.Omega.{arith}
+use Rattle.layout.proofs.Laws.{name-in}
+use borrow.Author.Needs.{needs}
+use Rattle.layout.proofs.name_in.Statement.{statement}
+use Rattle.layout.proofs.name_in.Tie as tie
+
+pub name-in-spec : {M : Type 1} → statement M
+name-in-spec =
+    tie.close
+    (tie.spec (λ c. search needs) (λ c. search needs) (λ c. search needs) (λ c. search needs) (λ c. search needs) (λ c κs. search needs)  -- returns
+    (λ c. let a = c .before .before .args in c .u16-at .ensures ∙ sym (name-in (a .base) (a .t) (a .types .now) (a .k) (omega arith))))
