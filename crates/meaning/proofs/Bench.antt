@@ -1,4 +1,4 @@
--- The proved cases of document 01's bench sheet: one table, one proof, by computing the entries on bytes. Assumes nothing.
+-- The proved cases of document 01's bench sheet: one table, one proof, computed on states and carried to bytes by laws. Assumes nothing.
 use Prim.Native.Nat.{ℕ, zero, suc, _+_, _-_}
 use mathlib.Core.Path.{_≡_, refl, ap, _∙_}
 use mathlib.Core.Bool.{Bool, true, false, cond}
@@ -23,7 +23,7 @@ use Rattle.meaning.proofs.Trees.Tests.{left, right}
 use Rattle.meaning.proofs.Bytes.Layouts.{AllBytes, bytes-nil, bytes-cons}
 use Rattle.meaning.proofs.Bytes.Records.{Good, arm-small, state-record}
 use Rattle.meaning.proofs.Bytes.Files.{fileNumbers, fileOf, file-bytes, sheet, replyOf, loaded-good}
-use Rattle.meaning.proofs.Entries.Running.{run-keeps}
+use Rattle.meaning.proofs.Entries.Paths.{run-keeps}
 use Rattle.meaning.proofs.Entries.GoodStays.{arm-board, step-stays, reply-stays}
 use Rattle.meaning.proofs.Entries.OnGoodStates.{load-writes, run-good, reply-good}
 use Rattle.meaning.specs.Terms.{Lit, str, truth, Head, lit, var, lambda, foreign, apply, future, ite, fix, nil, cons, isnil, zip, tuple, project, lproject, bind, Tree, Forest, node, end, more}

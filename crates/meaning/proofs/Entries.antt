@@ -6,5 +6,7 @@ pub mod OpenList
 pub mod Replying
 pub mod GoodStays
 pub mod OnGoodStates
+pub mod Alive
+pub mod Paths
 pub mod Histories
 pub mod Reports

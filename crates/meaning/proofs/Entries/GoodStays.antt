@@ -1,36 +1,34 @@
 -- A good state stays good: behind a step that a run makes, and behind a reply that is taken. Assumes nothing.
-use Prim.Native.Nat.{ℕ, zero, suc, _+_, _*_, _≤_, _<_}
+use Prim.Native.Nat.{ℕ, _+_, _*_, _≤_}
 use mathlib.Core.Path.{_≡_, refl, ap, sym, _∙_}
-use mathlib.Core.Bool.{Bool, true, false, cond, false≢true}
+use mathlib.Core.Bool.{false≢true}
 use mathlib.Core.List.{List, [], _∷_, _++_}
 use mathlib.Core.Option.{Option, none, some}
 use native.Mathlib.Omega.{arith}
-use native.Mathlib.Decide.{ℕ-discrete}
 use borrow.Author.Tests.{eq-eqb}
 use lib.ListN.{length}
 use Rattle.meaning.specs.Bytes.{_∧ᵇ_, Limits, arm}
-use Rattle.meaning.specs.Types.{Form, frn, Param, fList, fFun, formOf, ground, member, empty}
+use Rattle.meaning.specs.Types.{formOf, member, empty}
 use Rattle.meaning.specs.Terms.{Head, future, arity, code, wordOf, Tree, Forest, node, end, more, tyOf, flat, size}
 use Rattle.meaning.specs.Typing.{Typed}
-use Rattle.meaning.specs.Steps.{Call, Out, stay, go, step, swap, due, settle, settles, Entry}
+use Rattle.meaning.specs.Steps.{Call, go, swap, due, settle, settles, Entry}
 use Rattle.meaning.specs.Records.{State, listed}
 use Rattle.meaning.specs.Entries.{stepped, sent, without, replyNumber, replyTree, repliedState, replyVerdict}
-use Rattle.meaning.specs.declared.Verdict.{Verdict}
-use Rattle.meaning.specs.declared.Verdict.the-variants.{Accepted, Refused}
+use Rattle.meaning.specs.declared.Verdict.the-variants.{Accepted}
 use Rattle.meaning.proofs.Trees.Tests.{none-some}
 use Rattle.meaning.proofs.Trees.EachRow.{Fact, Every, Everys, Due, Listed, every-rows, rows-every, all-rows-map}
 use Rattle.meaning.proofs.Bytes.Layouts.{Each}
 use Rattle.meaning.proofs.Bytes.RowTables.{legal}
-use Rattle.meaning.proofs.Bytes.TypeTables.{Promises, promised}
+use Rattle.meaning.proofs.Bytes.TypeTables.{promised}
 use Rattle.meaning.proofs.Typing.Putting.{settle-typed, due-is}
 use Rattle.meaning.proofs.Steps.Preservation.{preservation}
 use Rattle.meaning.proofs.Bytes.Records.{Small, arm-small, Good}
 use Rattle.meaning.proofs.Typing.GroundValues.{Plain}
 use Rattle.meaning.proofs.Steps.Sends.{sent-type}
 use Rattle.meaning.proofs.Steps.EachRowKept.{Parts, legal-step, listed-step}
-use Rattle.meaning.proofs.Entries.Running.{stepOf, MaySend, behind, Passes}
-use Rattle.meaning.proofs.Entries.OpenList.{each-append, each-more, Below, rises-with, listed-with, listed-new, length-with, each-without, length-without, rises-without, listed-without, listed-fact}
-use Rattle.meaning.proofs.Entries.Replying.{OneTree, reply-tree, Answers, accepted-reply, plain-reply}
+use Rattle.meaning.proofs.Entries.Running.{stepOf, MaySend, behindStep, Passes}
+use Rattle.meaning.proofs.Entries.OpenList.{each-append, each-more, rises-with, listed-with, listed-new, length-with, each-without, length-without, rises-without, listed-without}
+use Rattle.meaning.proofs.Entries.Replying.{reply-tree, accepted-reply, plain-reply}
 
 -- what a reply settles: a row that stays keeps what is known of it, and the value put brings its own
 module _ (P Q : Fact) (k : ℕ) (v : Tree) (keeps : (h : Head) (u : ℕ) → due k v h ≡ none → P h u → Q h u) (new : Every Q v) where
@@ -185,8 +183,8 @@ send-stays m b s g c u e may h =
       program = q ∙ g .program;
     }
 
-behind-stays : (m : Limits) (b : Board m) (s : State) → Good m s → (c : Option Call) (u : Tree) → stepOf s ≡ go c u → MaySend m s c → size u ≤ m .rows → Good m (behind s c u)
-unfolding behind
+behind-stays : (m : Limits) (b : Board m) (s : State) → Good m s → (c : Option Call) (u : Tree) → stepOf s ≡ go c u → MaySend m s c → size u ≤ m .rows → Good m (behindStep s c u)
+unfolding behindStep
 behind-stays m b s g none u e may h = quiet-stays m b s g u e h
 behind-stays m b s g (some c) u e may h = send-stays m b s g c u e may h
 

@@ -1,21 +1,17 @@
 -- Demand 2 of load: a file is accepted exactly if it is of legal form and well typed; of legal form and not well typed, it is
 -- refused at the first row whose own rule fails. Assumes nothing.
-use Prim.Native.Nat.{ℕ, zero, suc, _+_, _*_, _≤_, _<_}
-use mathlib.Core.Path.{_≡_, refl, ap, sym, _∙_}
-use mathlib.Core.Bool.{Bool, true, false, cond, false≢true}
+use Prim.Native.Nat.{ℕ}
+use mathlib.Core.Path.{_≡_, refl, ap, _∙_}
+use mathlib.Core.Bool.{Bool, true, false}
 use mathlib.Core.Logic.{_↔_}
-use mathlib.Core.List.{List, [], _∷_}
+use mathlib.Core.List.{List}
 use mathlib.Core.Option.{Option, none, some}
-use native.Mathlib.Omega.{arith}
 use borrow.Author.Tests.{leb-true, le-leb, eqb-true, eq-eqb}
-use lib.Dec.{eqb, leb, ltb}
-use lib.ListN.{length, take}
-use Rattle.meaning.specs.Bytes.{_∧ᵇ_, within, width, read, fileHead, typeRow, termRow, Limits, recordBytes}
-use Rattle.meaning.specs.Types.{formOf, badType, sameNumbers, empty}
-use Rattle.meaning.specs.Terms.{shape}
+use lib.ListN.{length}
+use Rattle.meaning.specs.Bytes.{Limits, recordBytes}
+use Rattle.meaning.specs.Types.{formOf, sameNumbers, empty}
 use Rattle.meaning.specs.Typing.{Typed, firstBad}
-use Rattle.meaning.specs.Records.{version, firstNot}
-use Rattle.meaning.specs.Entries.{require, refuse, refuseShape, leaves, Loaded, load, loadVerdict, programVerdict, LegalFile, fileNo, fileTypes, fileRows, fileTree, noFuture}
+use Rattle.meaning.specs.Entries.{require, refuse, refuseShape, load, loadVerdict, programVerdict, LegalFile, fileTypes, fileTree}
 use Rattle.meaning.specs.declared.Fault.{Fault}
 use Rattle.meaning.specs.declared.Shape.{Shape}
 use Rattle.meaning.specs.declared.Shape.the-variants.{Whole, Bad}
@@ -24,7 +20,7 @@ use Rattle.meaning.specs.declared.Refusal.the-variants.{Length, Size, Ma
 use Rattle.meaning.specs.declared.Verdict.{Verdict}
 use Rattle.meaning.specs.declared.Verdict.the-variants.{Accepted, Refused}
 use Rattle.meaning.proofs.Trees.Tests.{both, left, right, within-if, within-of, numbers-is, numbers-same}
-use Rattle.meaning.proofs.Typing.FirstBad.{checked, typed-if, typed-of}
+use Rattle.meaning.proofs.Typing.FirstBad.{typed-if, typed-of}
 
 -- What an accepting verdict tells of its tests -------------------------------------------------------------------
 

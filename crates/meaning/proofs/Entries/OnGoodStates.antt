@@ -1,18 +1,15 @@
 -- The entries on the bytes of a good state, for every content of the buffers lent. Assumes nothing.
-use Prim.Native.Nat.{ℕ, zero, suc, _+_, _*_, _≤_, _<_}
-use mathlib.Core.Path.{_≡_, refl, ap, sym, _∙_}
-use mathlib.Core.Bool.{Bool, true, false, cond, false≢true}
-use mathlib.Core.List.{List, [], _∷_, _++_}
-use mathlib.Core.Option.{Option, none, some}
-use borrow.Author.Tests.{eq-eqb, ne-eqb}
+use Prim.Native.Nat.{ℕ}
+use mathlib.Core.Path.{_≡_, refl}
+use mathlib.Core.Bool.{true, false}
+use mathlib.Core.List.{List}
+use borrow.Author.Tests.{eq-eqb}
 use lib.Dec.{eqb}
 use lib.ListN.{length}
-use Rattle.meaning.specs.Bytes.{_∧ᵇ_, Limits, recordBytes, padded}
-use Rattle.meaning.specs.Records.{State, recordOf, stateOf, sound}
-use Rattle.meaning.specs.Entries.{leaves, Loaded, load, loadVerdict, loadedState, RunOut, Ended, runs, lent, ranOut, rejected, run, Replied, repliedState, repliedOut, replyVerdict, reply}
-use Rattle.meaning.specs.declared.Refusal.{Refusal}
-use Rattle.meaning.specs.declared.Refusal.the-variants.{Length, Unsound}
-use Rattle.meaning.specs.declared.Verdict.{Verdict}
+use Rattle.meaning.specs.Bytes.{_∧ᵇ_, Limits, recordBytes}
+use Rattle.meaning.specs.Records.{State, recordOf}
+use Rattle.meaning.specs.Entries.{leaves, load, loadedState, runs, lent, ranOut, rejected, run, repliedOut, replyVerdict, reply}
+use Rattle.meaning.specs.declared.Refusal.the-variants.{Length}
 use Rattle.meaning.specs.declared.Verdict.the-variants.{Accepted, Refused}
 use Rattle.meaning.proofs.Trees.Tests.{both}
 use Rattle.meaning.proofs.Bytes.Records.{Small, Good, record-length, state-record, sound-record}

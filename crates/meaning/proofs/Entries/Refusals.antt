@@ -1,17 +1,15 @@
 -- Demand 1: a refusal leaves every lent byte as it was, and its number is one of the entry's. Assumes nothing.
-use Prim.Native.Nat.{ℕ, zero, suc, _+_, _*_}
-use mathlib.Core.Path.{_≡_, refl, ap, sym, _∙_}
+use Prim.Native.Nat.{ℕ}
+use mathlib.Core.Path.{_≡_, refl}
 use mathlib.Core.Bool.{Bool, true, false, cond}
 use mathlib.Core.List.{List, [], _∷_}
 use mathlib.Core.Option.{Option, none, some}
-use lib.Dec.{eqb, leb}
-use lib.ListN.{length}
 use native.Mathlib.Omega.{arith}
-use Rattle.meaning.specs.Bytes.{_∧ᵇ_, within, Limits}
+use Rattle.meaning.specs.Bytes.{Limits}
 use Rattle.meaning.specs.Types.{member}
 use Rattle.meaning.specs.Answers.{refusalNumber}
 use Rattle.meaning.specs.Records.{State, sound, stateOf}
-use Rattle.meaning.specs.Entries.{leaves, Loaded, load, loadVerdict, programVerdict, require, refuse, refuseShape, RunOut, Ended, runs, run, rejected, ranOut, lent, Replied, reply, repliedOut, replyVerdict, answerVerdict}
+use Rattle.meaning.specs.Entries.{leaves, load, loadVerdict, programVerdict, require, refuse, refuseShape, RunOut, Ended, runs, run, rejected, ranOut, lent, Replied, reply, repliedOut, replyVerdict, answerVerdict}
 use Rattle.meaning.specs.declared.Fault.{Fault}
 use Rattle.meaning.specs.declared.Shape.{Shape}
 use Rattle.meaning.specs.declared.Shape.the-variants.{Whole, Bad}

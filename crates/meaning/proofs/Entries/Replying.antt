@@ -1,31 +1,28 @@
 -- Demand 2 of reply: on a good state a reply of legal form is accepted exactly if its number is open, it is a value of that call's type and it fits.
 -- Assumes nothing.
-use Prim.Native.Nat.{ℕ, zero, suc, _+_, _*_, _≤_, _<_}
+use Prim.Native.Nat.{ℕ, suc, _≤_}
 use mathlib.Core.Path.{_≡_, refl, ap, sym, _∙_}
-use mathlib.Core.Bool.{Bool, true, false, cond, false≢true}
+use mathlib.Core.Bool.{Bool, true, false, cond}
 use mathlib.Core.Logic.{_↔_}
-use mathlib.Core.List.{List, [], _∷_, _++_, map}
+use mathlib.Core.List.{List, [], _∷_, map}
 use mathlib.Core.Option.{Option, none, some}
 use native.Mathlib.Omega.{arith}
 use borrow.Author.Tests.{leb-true, le-leb, eqb-true, eq-eqb}
-use lib.Dec.{eqb, leb}
 use lib.ListN.{length, drop}
-use Rattle.meaning.specs.Bytes.{_∧ᵇ_, width, reads, termRow, replyHead, Limits}
-use Rattle.meaning.specs.Types.{formOf, ground, member, empty}
-use Rattle.meaning.specs.Terms.{Head, Tree, tyOf, Row, flat, size, code, kindNo, raw, rowOf, shape, treeOf}
-use Rattle.meaning.specs.Typing.{Typed, stop, firstBad}
+use Rattle.meaning.specs.Bytes.{width, termRow, replyHead, Limits}
+use Rattle.meaning.specs.Types.{formOf, ground, empty}
+use Rattle.meaning.specs.Terms.{tyOf, Row, flat, size, raw, shape}
+use Rattle.meaning.specs.Typing.{Typed, stop}
 use Rattle.meaning.specs.Steps.{value, settle, Entry}
 use Rattle.meaning.specs.Records.{State, version, firstNot, listed}
-use Rattle.meaning.specs.Entries.{require, refuse, refuseShape, LegalReply, replyNumber, replyCount, replyRows, replyTree, replyHeadOk, replyKind, replyBad, answerVerdict, replyVerdict}
-use Rattle.meaning.specs.declared.Shape.{Shape}
-use Rattle.meaning.specs.declared.Shape.the-variants.{Whole, Bad}
+use Rattle.meaning.specs.Entries.{LegalReply, replyNumber, replyCount, replyRows, replyTree, replyKind, replyBad, answerVerdict, replyVerdict}
+use Rattle.meaning.specs.declared.Shape.the-variants.{Whole}
 use Rattle.meaning.specs.declared.Refusal.{Refusal}
 use Rattle.meaning.specs.declared.Refusal.the-variants.{Header, NotOpen, ReplyRow, ReplyKind, ReplyTyping, ReplyRoom}
-use Rattle.meaning.specs.declared.Verdict.{Verdict}
 use Rattle.meaning.specs.declared.Verdict.the-variants.{Accepted, Refused}
-use Rattle.meaning.proofs.Trees.Tests.{both, left, right, none-some}
-use Rattle.meaning.proofs.Trees.EachRow.{Fact, Every, AllRows, every-rows, rows-every}
-use Rattle.meaning.proofs.Bytes.Layouts.{Each, reads-wide}
+use Rattle.meaning.proofs.Trees.Tests.{none-some}
+use Rattle.meaning.proofs.Trees.EachRow.{Every, AllRows, every-rows, rows-every}
+use Rattle.meaning.proofs.Bytes.Layouts.{reads-wide}
 use Rattle.meaning.proofs.Bytes.RowTables.{legal, shape-whole}
 use Rattle.meaning.proofs.Typing.FirstBad.{typed-if, typed-of}
 use Rattle.meaning.proofs.Bytes.Records.{Good}

@@ -1,29 +1,27 @@
 -- What the entries' statements settle: two outcomes that satisfy one are equal; and on bytes, a run leaves the record of the term after
 -- exactly the steps that it reports, and a reply is taken exactly for an open call. Assumes nothing.
-use Prim.Native.Nat.{ℕ, zero, suc, _≤_}
+use Prim.Native.Nat.{ℕ, _≤_}
 use mathlib.Core.Path.{_≡_, refl, ap, sym, _∙_}
-use mathlib.Core.Bool.{Bool, true, false, cond, false≢true}
+use mathlib.Core.Bool.{Bool, true, false, cond}
 use mathlib.Core.Logic.{_↔_}
-use mathlib.Core.List.{List, [], _∷_}
-use mathlib.Core.Option.{Option, none, some}
+use mathlib.Core.List.{List}
+use mathlib.Core.Option.{some}
 use native.Mathlib.Omega.{arith}
 use borrow.Author.Tests.{eqb-true}
-use lib.Dec.{eqb}
-use lib.ListN.{length}
-use Rattle.meaning.specs.Bytes.{_∧ᵇ_, Limits, recordBytes, padded}
+use Rattle.meaning.specs.Bytes.{Limits}
 use Rattle.meaning.specs.Records.{State, recordOf, stateOf, sound}
-use Rattle.meaning.specs.Entries.{RunOut, Ended, runs, afterSteps, lent, ranOut, rejected, run, Replied, LegalReply, replyVerdict, repliedOut, reply, LoadSays, RunSays, ReplySays}
+use Rattle.meaning.specs.Entries.{Ended, runs, afterSteps, lent, ranOut, rejected, run, LegalReply, replyVerdict, repliedOut, reply, LoadSays, RunSays, ReplySays}
 use Rattle.meaning.specs.declared.Refusal.{Refusal}
 use Rattle.meaning.specs.declared.Refusal.the-variants.{Length, Unsound}
 use Rattle.meaning.specs.declared.Verdict.{Verdict}
-use Rattle.meaning.specs.declared.Verdict.the-variants.{Accepted, Refused}
+use Rattle.meaning.specs.declared.Verdict.the-variants.{Accepted}
 use Rattle.meaning.specs.declared.Answer.{Answer}
 use Rattle.meaning.specs.declared.Run.{Run}
 use Rattle.meaning.specs.declared.Run.the-variants.{Ran, Rejected}
-use Rattle.meaning.proofs.Trees.Tests.{both, left, right}
+use Rattle.meaning.proofs.Trees.Tests.{left}
 use Rattle.meaning.proofs.Bytes.Layouts.{AllBytes}
 use Rattle.meaning.proofs.Bytes.Records.{Small, Good, good-state, state-record}
-use Rattle.meaning.proofs.Entries.Running.{Ends, run-makes, run-ends, run-within, run-keeps}
+use Rattle.meaning.proofs.Entries.Paths.{reached, Walk, run-walks, path-keeps, each-reached, path-makes, path-within, Ending, path-ends}
 use Rattle.meaning.proofs.Entries.Replying.{Answers, takes}
 use Rattle.meaning.proofs.Entries.GoodStays.{Board, step-stays}
 
@@ -65,43 +63,46 @@ answered m kept work budget a n q =
 
 -- demand 2 on bytes: the record after a run that reports n steps is that of the state after exactly n defined steps
 pub record Reported (m : Limits) (kept work : List ℕ) (budget : ℕ) (a : Answer) (n : ℕ) : Type 0 where
+  pub walk : Walk m kept budget a n (run m kept work budget .record′) (run m kept work budget .work′)
   pub state : State
+  pub last : reached (stateOf m kept) (walk .states) ≡ state
   pub good : Good m state
   pub steps : afterSteps n (stateOf m kept) ≡ some state
   pub within : n ≤ budget
   pub record-bytes : run m kept work budget .record′ ≡ recordOf m state
   pub record-state : stateOf m (run m kept work budget .record′) ≡ state
-  pub work-bytes : run m kept work budget .work′ ≡ padded (m .workBytes) (runs m budget (stateOf m kept) .letter)
-  pub ends : Ends m budget (stateOf m kept) (runs m budget (stateOf m kept))
-  pub told : a ≡ runs m budget (stateOf m kept) .answer
+  pub ends : Ending m budget (stateOf m kept) (walk .states) a (walk .letter)
 
 ran-same : (a b : Answer) (n k : ℕ) → Ran a n ≡ Ran b k → (a ≡ b) × (n ≡ k)
 ran-same a b n k e = (cc, cc)
 
-ran-parts : (m : Limits) (e : Ended) → (ranOut m e .answer ≡ Ran (e .answer) (e .made)) × (ranOut m e .record′ ≡ recordOf m (e .state)) × (ranOut m e .work′ ≡ padded (m .workBytes) (e .letter))
-unfolding ranOut
-ran-parts m e = (refl, refl, refl)
+-- an answered run went a path
+pub answered-walk : (m : Limits) (kept work : List ℕ) (budget : ℕ) (a : Answer) (n : ℕ) → run m kept work budget .answer ≡ Ran a n
+    → Walk m kept budget a n (run m kept work budget .record′) (run m kept work budget .work′)
+answered-walk m kept work budget a n q =
+    let x = answered m kept work budget a n q in
+    let (b, j, e, w) = run-walks m kept work budget (x .buffers) (x .is-sound) in
+    let (u, v) = ran-same b a j n (sym e ∙ q) in
+    record { states = w .states; letter = w .letter; path = rw u at (w .path); made = w .made ∙ v; kept-bytes = w .kept-bytes; work-bytes = w .work-bytes }
 
 pub run-reports : (m : Limits) → Board m → (kept work : List ℕ) (budget : ℕ) (a : Answer) (n : ℕ) → AllBytes kept → run m kept work budget .answer ≡ Ran a n → Reported m kept work budget a n
 unfolding lent
 run-reports m k kept work budget a n h q =
     let x = answered m kept work budget a n q in
+    let w = answered-walk m kept work budget a n q in
     let s = stateOf m kept in
-    let e = runs m budget s in
-    let (p₁, p₂, p₃) = ran-parts m e in
-    let (u, v) = ran-same a (e .answer) n (e .made) (sym q ∙ ap (λ (o : RunOut). o .answer) (x .outcome) ∙ p₁) in
-    let g = run-keeps m (Good m) (step-stays m k) budget s (good-state m kept (k .small) (eqb-true _ _ (left _ _ (x .buffers))) h (x .is-sound)) in
-    let r : run m kept work budget .record′ ≡ recordOf m (e .state) = ap (λ (o : RunOut). o .record′) (x .outcome) ∙ p₂ in
+    let g = good-state m kept (k .small) (eqb-true _ _ (left _ _ (x .buffers))) h (x .is-sound) in
+    let f = each-reached (Good m) s (w .states) g (path-keeps m (Good m) (step-stays m k) (w .path) g) in
     record {
-      state = e .state;
-      good = g;
-      steps = ap (λ (i : ℕ). afterSteps i s) v ∙ run-makes m budget s;
-      within = omega (arith, run-within m budget s);
-      record-bytes = r;
-      record-state = ap (stateOf m) r ∙ state-record m (e .state) (k .small) g;
-      work-bytes = ap (λ (o : RunOut). o .work′) (x .outcome) ∙ p₃;
-      ends = run-ends m budget s;
-      told = u;
+      walk = w;
+      state = reached s (w .states);
+      last = refl;
+      good = f;
+      steps = ap (λ (i : ℕ). afterSteps i s) (sym (w .made)) ∙ path-makes m (w .path);
+      within = omega (arith, path-within m (w .path), w .made);
+      record-bytes = w .kept-bytes;
+      record-state = ap (stateOf m) (w .kept-bytes) ∙ state-record m (reached s (w .states)) (k .small) f;
+      ends = path-ends m (w .path);
     }
 
 -- Replies on bytes -------------------------------------------------------------------------------------------------
