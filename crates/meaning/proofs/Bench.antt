@@ -8,12 +8,12 @@ use borrow.Author.Tests.{ltb-true}
 use lib.Dec.{ltb}
 use lib.ListN.{length, replicate}
 use Rattle.meaning.specs.Bytes.{_∧ᵇ_, within, zeros, number, spell, width, read, write, reads, writes, padded, callsAt, rowsAt, recordBytes}
-use Rattle.meaning.specs.Types.{types, names, params, elemOf, pairs, parts, formRow, formOf, every, groundForm, groundBelow, ground, lastForm, nonzero, member, distinct, below, fieldsOk, sameNumbers, fresh, groundCall, typeOk, badTypeFrom, badType, find, empty, pick, _⹁_, place, low, rest}
-use Rattle.meaning.specs.Terms.{headOf, tyOf, flat, size, code, is, nOf, wordOf, headFrom, lastKind, raw, rowOf, fits, rowFault, unless-bad, shapeFrom, shape, blank, kids, trees, top, treeOf}
+use Rattle.meaning.specs.Types.{types, names, params, elemOf, pairs, parts, formRow, formOf, every, groundForm, groundBelow, ground, lastForm, nonzero, member, distinct, below, plainOk, listOk, tupleOk, namesOk, functionOk, fieldsOk, sameNumbers, fresh, groundCall, typeOk, badTypeFrom, badType, find, empty, pick, _⹁_, place, low, rest}
+use Rattle.meaning.specs.Terms.{headOf, tyOf, flat, size, code, is, nOf, wordOf, headFrom, lastKind, raw, rowOf, withinOne, fits, rowFault, unless-bad, shapeFrom, shape, blank, kids, trees, top, treeOf}
 use Rattle.meaning.specs.Typing.{list, tys, litBase, firstIs, belowOk, baseNo, isBase, whenList, whenTuple, whenFun, whenMore, sameSide, sameParams, given, stop, before, later, scope, maskedOk, zippedOk, ruleOk, rowOk, firstBad}
 use Rattle.meaning.specs.Steps.{_∨ᵇ_, veil, hide, swap, hit, assign, put, due, settle, value, nth, child, kid, become, ifStep, isnilStep, projectStep, sendStep, isList, ready, anyNil, kidsAt, lprojectStep, tie, fixStep, zipCons, zipStep, applyStep, letStep, contract, nowhere, everywhere, first, unless, behind, unready, applyLooks, looks, orElse, wrap, tailGoes, headGoes, visit, step, earlier}
 use Rattle.meaning.specs.Records.{rawEntry, headNumbers, recordOf, typesIn, entriesIn, rowsIn, entryOf, stateOf, firstNot, nothing, isWhole, headSound, unused, spaceSound, typesSound, shapeSound, termSound, rises, entrySound, callsSound, listed, futureListed, futuresSound, programSound, sound}
-use Rattle.meaning.specs.Entries.{require, refuse, refuseShape, leaves, fileTypes, fileRows, fileTree, noFuture, programVerdict, loadVerdict, loadedState, load, need, stepped, sent, tryOut, try, letterOf, again, ended, onward, runs, lent, ranOut, rejected, run, replyRows, replyTree, replyHeadOk, replyKind, replyBad, answerVerdict, replyVerdict, without, repliedState, repliedOut, reply}
+use Rattle.meaning.specs.Entries.{require, refuse, refuseShape, leaves, fileTypes, fileRows, fileTree, noFuture, programVerdict, loadVerdict, loadedState, load, sendMeets, need, unmet, stepped, sent, tryOut, try, letterOf, again, ended, onward, runs, lent, ranOut, rejected, run, replyRows, replyTree, replyHeadOk, replyKind, replyBad, answerVerdict, replyVerdict, without, repliedState, repliedOut, reply}
 use Rattle.meaning.specs.Bytes.{fileHead, typeRow, termRow, replyHead, arm}
 use Rattle.meaning.specs.Records.{State}
 use Rattle.meaning.specs.Entries.{RunOut, Replied}
@@ -304,22 +304,22 @@ calls-at s a = ap (λ (x : State). x .calls) (state-at s a)
 
 module _ (old : List ℕ) (o : length old ≡ 26132) (work : List ℕ) (w : length work ≡ 16400) where
   at-one : At (one-sent old work) sent-one
-  unfolding _∧ᵇ_ within zeros number spell width read write reads writes padded callsAt rowsAt recordBytes types names params elemOf pairs parts formRow formOf every groundForm groundBelow ground lastForm nonzero member distinct below fieldsOk sameNumbers fresh groundCall typeOk badTypeFrom badType find empty pick _⹁_ place low rest headOf tyOf flat size code is nOf wordOf headFrom lastKind raw rowOf fits rowFault unless-bad shapeFrom shape blank kids trees top treeOf list tys litBase firstIs belowOk baseNo isBase whenList whenTuple whenFun whenMore sameSide sameParams given stop before later scope maskedOk zippedOk ruleOk rowOk firstBad _∨ᵇ_ veil hide swap hit assign put due settle value nth child kid become ifStep isnilStep projectStep sendStep isList ready anyNil kidsAt lprojectStep tie fixStep zipCons zipStep applyStep letStep contract nowhere everywhere first unless behind unready applyLooks looks orElse wrap tailGoes headGoes visit step earlier rawEntry headNumbers recordOf typesIn entriesIn rowsIn entryOf stateOf firstNot nothing isWhole headSound unused spaceSound typesSound shapeSound termSound rises entrySound callsSound listed futureListed futuresSound programSound sound require refuse refuseShape leaves fileTypes fileRows fileTree noFuture programVerdict loadVerdict loadedState load need stepped sent tryOut try letterOf again ended onward runs lent ranOut rejected run replyRows replyTree replyHeadOk replyKind replyBad answerVerdict replyVerdict without repliedState repliedOut reply fileNumbers fileOf sheet replyOf lows
+  unfolding _∧ᵇ_ within zeros number spell width read write reads writes padded callsAt rowsAt recordBytes types names params elemOf pairs parts formRow formOf every groundForm groundBelow ground lastForm nonzero member distinct below plainOk listOk tupleOk namesOk functionOk fieldsOk sameNumbers fresh groundCall typeOk badTypeFrom badType find empty pick _⹁_ place low rest headOf tyOf flat size code is nOf wordOf headFrom lastKind raw rowOf withinOne fits rowFault unless-bad shapeFrom shape blank kids trees top treeOf list tys litBase firstIs belowOk baseNo isBase whenList whenTuple whenFun whenMore sameSide sameParams given stop before later scope maskedOk zippedOk ruleOk rowOk firstBad _∨ᵇ_ veil hide swap hit assign put due settle value nth child kid become ifStep isnilStep projectStep sendStep isList ready anyNil kidsAt lprojectStep tie fixStep zipCons zipStep applyStep letStep contract nowhere everywhere first unless behind unready applyLooks looks orElse wrap tailGoes headGoes visit step earlier rawEntry headNumbers recordOf typesIn entriesIn rowsIn entryOf stateOf firstNot nothing isWhole headSound unused spaceSound typesSound shapeSound termSound rises entrySound callsSound listed futureListed futuresSound programSound sound require refuse refuseShape leaves fileTypes fileRows fileTree noFuture programVerdict loadVerdict loadedState load sendMeets need unmet stepped sent tryOut try letterOf again ended onward runs lent ranOut rejected run replyRows replyTree replyHeadOk replyKind replyBad answerVerdict replyVerdict without repliedState repliedOut reply fileNumbers fileOf sheet replyOf lows
   at-one = behind-run work w (opened old twice) (loadedState (program twice)) (loaded old o (program twice) (file-bytes table (map raw (flat twice))) refl) 1000
 
   at-two : At (two-sent old work) sent-two
   at-two = behind-run work w (one-sent old work) sent-one at-one 1000
 
   at-three : At (one-back old work) back-one
-  unfolding _∧ᵇ_ within zeros number spell width read write reads writes padded callsAt rowsAt recordBytes types names params elemOf pairs parts formRow formOf every groundForm groundBelow ground lastForm nonzero member distinct below fieldsOk sameNumbers fresh groundCall typeOk badTypeFrom badType find empty pick _⹁_ place low rest headOf tyOf flat size code is nOf wordOf headFrom lastKind raw rowOf fits rowFault unless-bad shapeFrom shape blank kids trees top treeOf list tys litBase firstIs belowOk baseNo isBase whenList whenTuple whenFun whenMore sameSide sameParams given stop before later scope maskedOk zippedOk ruleOk rowOk firstBad _∨ᵇ_ veil hide swap hit assign put due settle value nth child kid become ifStep isnilStep projectStep sendStep isList ready anyNil kidsAt lprojectStep tie fixStep zipCons zipStep applyStep letStep contract nowhere everywhere first unless behind unready applyLooks looks orElse wrap tailGoes headGoes visit step earlier rawEntry headNumbers recordOf typesIn entriesIn rowsIn entryOf stateOf firstNot nothing isWhole headSound unused spaceSound typesSound shapeSound termSound rises entrySound callsSound listed futureListed futuresSound programSound sound require refuse refuseShape leaves fileTypes fileRows fileTree noFuture programVerdict loadVerdict loadedState load need stepped sent tryOut try letterOf again ended onward runs lent ranOut rejected run replyRows replyTree replyHeadOk replyKind replyBad answerVerdict replyVerdict without repliedState repliedOut reply fileNumbers fileOf sheet replyOf lows
+  unfolding _∧ᵇ_ within zeros number spell width read write reads writes padded callsAt rowsAt recordBytes types names params elemOf pairs parts formRow formOf every groundForm groundBelow ground lastForm nonzero member distinct below plainOk listOk tupleOk namesOk functionOk fieldsOk sameNumbers fresh groundCall typeOk badTypeFrom badType find empty pick _⹁_ place low rest headOf tyOf flat size code is nOf wordOf headFrom lastKind raw rowOf withinOne fits rowFault unless-bad shapeFrom shape blank kids trees top treeOf list tys litBase firstIs belowOk baseNo isBase whenList whenTuple whenFun whenMore sameSide sameParams given stop before later scope maskedOk zippedOk ruleOk rowOk firstBad _∨ᵇ_ veil hide swap hit assign put due settle value nth child kid become ifStep isnilStep projectStep sendStep isList ready anyNil kidsAt lprojectStep tie fixStep zipCons zipStep applyStep letStep contract nowhere everywhere first unless behind unready applyLooks looks orElse wrap tailGoes headGoes visit step earlier rawEntry headNumbers recordOf typesIn entriesIn rowsIn entryOf stateOf firstNot nothing isWhole headSound unused spaceSound typesSound shapeSound termSound rises entrySound callsSound listed futureListed futuresSound programSound sound require refuse refuseShape leaves fileTypes fileRows fileTree noFuture programVerdict loadVerdict loadedState load sendMeets need unmet stepped sent tryOut try letterOf again ended onward runs lent ranOut rejected run replyRows replyTree replyHeadOk replyKind replyBad answerVerdict replyVerdict without repliedState repliedOut reply fileNumbers fileOf sheet replyOf lows
   at-three = behind-reply work w (two-sent old work) sent-two at-two (says 2 (text 41)) refl
 
   at-four : At (both-back old work) back-two
-  unfolding _∧ᵇ_ within zeros number spell width read write reads writes padded callsAt rowsAt recordBytes types names params elemOf pairs parts formRow formOf every groundForm groundBelow ground lastForm nonzero member distinct below fieldsOk sameNumbers fresh groundCall typeOk badTypeFrom badType find empty pick _⹁_ place low rest headOf tyOf flat size code is nOf wordOf headFrom lastKind raw rowOf fits rowFault unless-bad shapeFrom shape blank kids trees top treeOf list tys litBase firstIs belowOk baseNo isBase whenList whenTuple whenFun whenMore sameSide sameParams given stop before later scope maskedOk zippedOk ruleOk rowOk firstBad _∨ᵇ_ veil hide swap hit assign put due settle value nth child kid become ifStep isnilStep projectStep sendStep isList ready anyNil kidsAt lprojectStep tie fixStep zipCons zipStep applyStep letStep contract nowhere everywhere first unless behind unready applyLooks looks orElse wrap tailGoes headGoes visit step earlier rawEntry headNumbers recordOf typesIn entriesIn rowsIn entryOf stateOf firstNot nothing isWhole headSound unused spaceSound typesSound shapeSound termSound rises entrySound callsSound listed futureListed futuresSound programSound sound require refuse refuseShape leaves fileTypes fileRows fileTree noFuture programVerdict loadVerdict loadedState load need stepped sent tryOut try letterOf again ended onward runs lent ranOut rejected run replyRows replyTree replyHeadOk replyKind replyBad answerVerdict replyVerdict without repliedState repliedOut reply fileNumbers fileOf sheet replyOf lows
+  unfolding _∧ᵇ_ within zeros number spell width read write reads writes padded callsAt rowsAt recordBytes types names params elemOf pairs parts formRow formOf every groundForm groundBelow ground lastForm nonzero member distinct below plainOk listOk tupleOk namesOk functionOk fieldsOk sameNumbers fresh groundCall typeOk badTypeFrom badType find empty pick _⹁_ place low rest headOf tyOf flat size code is nOf wordOf headFrom lastKind raw rowOf withinOne fits rowFault unless-bad shapeFrom shape blank kids trees top treeOf list tys litBase firstIs belowOk baseNo isBase whenList whenTuple whenFun whenMore sameSide sameParams given stop before later scope maskedOk zippedOk ruleOk rowOk firstBad _∨ᵇ_ veil hide swap hit assign put due settle value nth child kid become ifStep isnilStep projectStep sendStep isList ready anyNil kidsAt lprojectStep tie fixStep zipCons zipStep applyStep letStep contract nowhere everywhere first unless behind unready applyLooks looks orElse wrap tailGoes headGoes visit step earlier rawEntry headNumbers recordOf typesIn entriesIn rowsIn entryOf stateOf firstNot nothing isWhole headSound unused spaceSound typesSound shapeSound termSound rises entrySound callsSound listed futureListed futuresSound programSound sound require refuse refuseShape leaves fileTypes fileRows fileTree noFuture programVerdict loadVerdict loadedState load sendMeets need unmet stepped sent tryOut try letterOf again ended onward runs lent ranOut rejected run replyRows replyTree replyHeadOk replyKind replyBad answerVerdict replyVerdict without repliedState repliedOut reply fileNumbers fileOf sheet replyOf lows
   at-four = behind-reply work w (one-back old work) back-one at-three (says 1 (text 40)) refl
 
   pub bench : Table old work
-  unfolding _∧ᵇ_ within zeros number spell width read write reads writes padded callsAt rowsAt recordBytes types names params elemOf pairs parts formRow formOf every groundForm groundBelow ground lastForm nonzero member distinct below fieldsOk sameNumbers fresh groundCall typeOk badTypeFrom badType find empty pick _⹁_ place low rest headOf tyOf flat size code is nOf wordOf headFrom lastKind raw rowOf fits rowFault unless-bad shapeFrom shape blank kids trees top treeOf list tys litBase firstIs belowOk baseNo isBase whenList whenTuple whenFun whenMore sameSide sameParams given stop before later scope maskedOk zippedOk ruleOk rowOk firstBad _∨ᵇ_ veil hide swap hit assign put due settle value nth child kid become ifStep isnilStep projectStep sendStep isList ready anyNil kidsAt lprojectStep tie fixStep zipCons zipStep applyStep letStep contract nowhere everywhere first unless behind unready applyLooks looks orElse wrap tailGoes headGoes visit step earlier rawEntry headNumbers recordOf typesIn entriesIn rowsIn entryOf stateOf firstNot nothing isWhole headSound unused spaceSound typesSound shapeSound termSound rises entrySound callsSound listed futureListed futuresSound programSound sound require refuse refuseShape leaves fileTypes fileRows fileTree noFuture programVerdict loadVerdict loadedState load need stepped sent tryOut try letterOf again ended onward runs lent ranOut rejected run replyRows replyTree replyHeadOk replyKind replyBad answerVerdict replyVerdict without repliedState repliedOut reply fileNumbers fileOf sheet replyOf lows
+  unfolding _∧ᵇ_ within zeros number spell width read write reads writes padded callsAt rowsAt recordBytes types names params elemOf pairs parts formRow formOf every groundForm groundBelow ground lastForm nonzero member distinct below plainOk listOk tupleOk namesOk functionOk fieldsOk sameNumbers fresh groundCall typeOk badTypeFrom badType find empty pick _⹁_ place low rest headOf tyOf flat size code is nOf wordOf headFrom lastKind raw rowOf withinOne fits rowFault unless-bad shapeFrom shape blank kids trees top treeOf list tys litBase firstIs belowOk baseNo isBase whenList whenTuple whenFun whenMore sameSide sameParams given stop before later scope maskedOk zippedOk ruleOk rowOk firstBad _∨ᵇ_ veil hide swap hit assign put due settle value nth child kid become ifStep isnilStep projectStep sendStep isList ready anyNil kidsAt lprojectStep tie fixStep zipCons zipStep applyStep letStep contract nowhere everywhere first unless behind unready applyLooks looks orElse wrap tailGoes headGoes visit step earlier rawEntry headNumbers recordOf typesIn entriesIn rowsIn entryOf stateOf firstNot nothing isWhole headSound unused spaceSound typesSound shapeSound termSound rises entrySound callsSound listed futureListed futuresSound programSound sound require refuse refuseShape leaves fileTypes fileRows fileTree noFuture programVerdict loadVerdict loadedState load sendMeets need unmet stepped sent tryOut try letterOf again ended onward runs lent ranOut rejected run replyRows replyTree replyHeadOk replyKind replyBad answerVerdict replyVerdict without repliedState repliedOut reply fileNumbers fileOf sheet replyOf lows
   bench = (
     -- if true then str 7 else str 8: 1 step, str 7. Budget 0: BUDGET, 0 steps. The file is 114 bytes; empty input is refused 2
     refl,
@@ -406,5 +406,5 @@ pub traps :
     -- a call that waits is passed over, one that can be sent is not
     × (step form 2 (pair (future-of 1) second) ≡ go none (pair (future-of 1) (text 3)))
     × (step form 2 (pair locate second) ≡ go (some (record { tool = 9; rows = []; result = 0 })) (pair (future-of 2) second))
-unfolding _∧ᵇ_ within zeros number spell width read write reads writes padded callsAt rowsAt recordBytes types names params elemOf pairs parts formRow formOf every groundForm groundBelow ground lastForm nonzero member distinct below fieldsOk sameNumbers fresh groundCall typeOk badTypeFrom badType find empty pick _⹁_ place low rest headOf tyOf flat size code is nOf wordOf headFrom lastKind raw rowOf fits rowFault unless-bad shapeFrom shape blank kids trees top treeOf list tys litBase firstIs belowOk baseNo isBase whenList whenTuple whenFun whenMore sameSide sameParams given stop before later scope maskedOk zippedOk ruleOk rowOk firstBad _∨ᵇ_ veil hide swap hit assign put due settle value nth child kid become ifStep isnilStep projectStep sendStep isList ready anyNil kidsAt lprojectStep tie fixStep zipCons zipStep applyStep letStep contract nowhere everywhere first unless behind unready applyLooks looks orElse wrap tailGoes headGoes visit step earlier rawEntry headNumbers recordOf typesIn entriesIn rowsIn entryOf stateOf firstNot nothing isWhole headSound unused spaceSound typesSound shapeSound termSound rises entrySound callsSound listed futureListed futuresSound programSound sound require refuse refuseShape leaves fileTypes fileRows fileTree noFuture programVerdict loadVerdict loadedState load need stepped sent tryOut try letterOf again ended onward runs lent ranOut rejected run replyRows replyTree replyHeadOk replyKind replyBad answerVerdict replyVerdict without repliedState repliedOut reply fileNumbers fileOf sheet replyOf lows
+unfolding _∧ᵇ_ within zeros number spell width read write reads writes padded callsAt rowsAt recordBytes types names params elemOf pairs parts formRow formOf every groundForm groundBelow ground lastForm nonzero member distinct below plainOk listOk tupleOk namesOk functionOk fieldsOk sameNumbers fresh groundCall typeOk badTypeFrom badType find empty pick _⹁_ place low rest headOf tyOf flat size code is nOf wordOf headFrom lastKind raw rowOf withinOne fits rowFault unless-bad shapeFrom shape blank kids trees top treeOf list tys litBase firstIs belowOk baseNo isBase whenList whenTuple whenFun whenMore sameSide sameParams given stop before later scope maskedOk zippedOk ruleOk rowOk firstBad _∨ᵇ_ veil hide swap hit assign put due settle value nth child kid become ifStep isnilStep projectStep sendStep isList ready anyNil kidsAt lprojectStep tie fixStep zipCons zipStep applyStep letStep contract nowhere everywhere first unless behind unready applyLooks looks orElse wrap tailGoes headGoes visit step earlier rawEntry headNumbers recordOf typesIn entriesIn rowsIn entryOf stateOf firstNot nothing isWhole headSound unused spaceSound typesSound shapeSound termSound rises entrySound callsSound listed futureListed futuresSound programSound sound require refuse refuseShape leaves fileTypes fileRows fileTree noFuture programVerdict loadVerdict loadedState load sendMeets need unmet stepped sent tryOut try letterOf again ended onward runs lent ranOut rejected run replyRows replyTree replyHeadOk replyKind replyBad answerVerdict replyVerdict without repliedState repliedOut reply fileNumbers fileOf sheet replyOf lows
 traps = (refl, refl, refl, refl, refl, refl, refl, refl, refl)

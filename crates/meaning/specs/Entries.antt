@@ -11,8 +11,8 @@ use Rattle.meaning.specs.Bytes.{_∧ᵇ_, within, width, read, write, re
 use Rattle.meaning.specs.Types.{Form, formOf, badType, sameNumbers, empty, member}
 use Rattle.meaning.specs.Terms.{Tree, tyOf, size, kindNo, raw, rowOf, shape, treeOf}
 use Rattle.meaning.specs.Typing.{stop, firstBad}
-use Rattle.meaning.specs.Steps.{Call, Out, stay, go, value, step, settle, Entry}
-use Rattle.meaning.specs.Records.{State, version, recordOf, stateOf, sound, listed, firstNot}
+use Rattle.meaning.specs.Steps.{Call, Out, stay, go, value, step, settle}
+use Rattle.meaning.specs.Records.{State, Entry, version, recordOf, stateOf, sound, listed, firstNot}
 use Rattle.meaning.specs.declared.Fault.{Fault}
 use Rattle.meaning.specs.declared.Shape.{Shape}
 use Rattle.meaning.specs.declared.Shape.the-variants.{Whole, Bad}
@@ -52,6 +52,10 @@ pub record Loaded : Type 0 where
 abbrev pub fileNo : ℕ → List ℕ → ℕ
 fileNo i file = getD (read fileHead file) i 0
 
+-- the edition that a file says it is of
+abbrev pub fileEdition : List ℕ → ℕ
+fileEdition file = fileNo 3 file
+
 abbrev pub fileTypeCount : List ℕ → ℕ
 fileTypeCount file = fileNo 5 file
 
@@ -73,8 +77,8 @@ noFuture r = not (eqb (kindNo r) 9)
 -- refusals 6, 7, 8, 9
 unfoldable pub programVerdict : List ℕ → Verdict
 programVerdict file =
-    refuse (badType version (fileTypes file)) TypeRow
-    (refuseShape (shape version (fileTypeCount file) (fileRows file)) Row
+    refuse (badType (fileEdition file) (fileTypes file)) TypeRow
+    (refuseShape (shape (fileEdition file) (fileTypeCount file) (fileRows file)) Row
     (refuse (firstNot noFuture (fileRows file)) Future
     (refuse (firstBad (formOf (fileTypes file)) empty (fileTree file)) Typing Accepted)))
 
@@ -84,7 +88,7 @@ loadVerdict m file room =
     require (eqb room (recordBytes m)) Length
     (require (leb (width fileHead) (length file)) Size
     (require (sameNumbers (take 3 (read fileHead file)) (84 ∷ 67 ∷ 65 ∷ [])) Mark
-    (require (eqb (fileNo 3 file) version) Version
+    (require (eqb (fileEdition file) version) Version
     (require (eqb (fileNo 4 file) 0 ∧ᵇ within 1 (m .types) (fileTypeCount file) ∧ᵇ within 1 (m .programRows) (fileRowCount file)) Count
     (require (eqb (length file) (width fileHead + width typeRow * fileTypeCount file + width termRow * fileRowCount file)) Size
     (programVerdict file))))))
@@ -93,15 +97,15 @@ loadVerdict m file room =
 pub record LegalFile (m : Limits) (file : List ℕ) : Type 0 where
   pub long : width fileHead ≤ length file
   pub mark : take 3 (read fileHead file) ≡ 84 ∷ 67 ∷ 65 ∷ []
-  pub edition : fileNo 3 file ≡ version
+  pub edition : fileEdition file ≡ version
   pub zero-byte : fileNo 4 file ≡ 0
   pub types-some : 1 ≤ fileTypeCount file
   pub types-many : fileTypeCount file ≤ m .types
   pub rows-some : 1 ≤ fileRowCount file
   pub rows-many : fileRowCount file ≤ m .programRows
   pub size : length file ≡ width fileHead + width typeRow * fileTypeCount file + width termRow * fileRowCount file
-  pub types-good : badType version (fileTypes file) ≡ none
-  pub one-tree : shape version (fileTypeCount file) (fileRows file) ≡ Whole
+  pub types-good : badType (fileEdition file) (fileTypes file) ≡ none
+  pub one-tree : shape (fileEdition file) (fileTypeCount file) (fileRows file) ≡ Whole
   pub no-future : firstNot noFuture (fileRows file) ≡ none
 
 -- "An accepted load writes a fresh record: the file's types and rows, next number 1, no open call, row 0's type as program type"
@@ -117,6 +121,12 @@ load m file kept =
 
 -- Run ------------------------------------------------------------------------------------------------------------
 
+-- what a step that sends meets: "3 HELD .. 64 are open", or else "6 NUMBERS .. the next number is 65,536", or nothing
+unfoldable pub sendMeets : Limits → State → Option Answer
+sendMeets m s =
+    cond (ltb (length (s .calls)) (m .calls))
+    (cond (leb (s .next) (m .lastNumber)) none (some Numbers)) (some Held)
+
 -- before a step: an answer that ends the run, or the state behind the step and the call that it sends
 pub data Try : Type 0 where
   halt : Answer → Try
@@ -125,6 +135,10 @@ pub data Try : Type 0 where
 unfoldable pub need : Bool → Answer → Try → Try
 need true a t = t
 need false a t = halt a
+
+unfoldable pub unmet : Option Answer → Try → Try
+unmet none t = t
+unmet (some a) t = halt a
 
 unfoldable pub stepped : State → Tree → State
 stepped s u = record { types = s .types; tree = u; calls = s .calls; next = s .next; program = s .program }
@@ -157,10 +171,7 @@ afterSteps (suc n) s = elim (nextState s) [ none ↦ none | some u ↦ afterStep
 unfoldable pub tryOut : Limits → State → Out → Try
 tryOut m s stay = halt Waiting
 tryOut m s (go none u) = need (leb (size u) (m .rows)) Room (pass none (stepped s u))
-tryOut m s (go (some c) u) =
-    need (ltb (length (s .calls)) (m .calls)) Held
-    (need (leb (s .next) (m .lastNumber)) Numbers
-    (need (leb (size u) (m .rows)) Room (pass (some c) (sent s c u))))
+tryOut m s (go (some c) u) = unmet (sendMeets m s) (need (leb (size u) (m .rows)) Room (pass (some c) (sent s c u)))
 
 unfoldable pub try : Limits → State → Try
 try m s = cond (value (s .tree)) (halt Value) (tryOut m s (step (formOf (s .types)) (s .next) (s .tree)))

@@ -9,9 +9,13 @@ use Rattle.meaning.specs.Bytes.{_∧ᵇ_, within, zeros, Layout, width, 
 use Rattle.meaning.specs.Types.{Form, formOf, ground, badType, sameNumbers, empty}
 use Rattle.meaning.specs.Terms.{Tree, tyOf, flat, size, kindNo, typeNo, wordNo, raw, rowOf, shape, treeOf}
 use Rattle.meaning.specs.Typing.{given, firstBad}
-use Rattle.meaning.specs.Steps.{Entry}
 use Rattle.meaning.specs.declared.Shape.{Shape}
 use Rattle.meaning.specs.declared.Shape.the-variants.{Whole, Bad}
+
+-- a call in the open list: its number, and the type of its reply
+pub record Entry : Type 0 where
+  pub number : ℕ
+  pub type : ℕ
 
 -- what a record holds: the type rows, the term, the open calls, the next number, the program's type
 pub record State : Type 0 where
@@ -23,6 +27,7 @@ pub record State : Type 0 where
 
 -- Writing --------------------------------------------------------------------------------------------------------
 
+-- the edition that files are read in, and records written and read in
 abbrev pub version : ℕ
 version = 1
 
@@ -48,6 +53,10 @@ recordOf m s =
 
 abbrev pub headNo : ℕ → List ℕ → ℕ
 headNo i b = getD (read recordHead b) i 0
+
+-- the edition that a record says it is of
+abbrev pub recordEdition : List ℕ → ℕ
+recordEdition b = headNo 3 b
 
 abbrev pub typeCount : List ℕ → ℕ
 typeCount b = headNo 5 b
@@ -123,10 +132,10 @@ spaceSound m b =
 
 -- "its types and term pass what refusals 6, 7 and 9 test (futures allowed ..)"
 unfoldable pub typesSound : List ℕ → Bool
-typesSound b = nothing (badType version (typesIn b))
+typesSound b = nothing (badType (recordEdition b) (typesIn b))
 
 unfoldable pub shapeSound : Limits → List ℕ → Bool
-shapeSound m b = isWhole (shape version (typeCount b) (rowsIn m b))
+shapeSound m b = isWhole (shape (recordEdition b) (typeCount b) (rowsIn m b))
 
 unfoldable pub termSound : Limits → List ℕ → Bool
 termSound m b = nothing (firstBad (formOf (typesIn b)) empty (stateOf m b .tree))

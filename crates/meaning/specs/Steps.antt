@@ -302,20 +302,20 @@ module _ (form : ℕ → Form) where
 
 -- Waiting --------------------------------------------------------------------------------------------------------
 
--- a call under its number, with the type of its reply
-pub record Entry : Type 0 where
+-- a future that is awaited: its number, and the type that it states
+pub record Awaited : Type 0 where
   pub number : ℕ
   pub type : ℕ
 
-unfoldable pub earlier : Option Entry → Option Entry → Option Entry
+unfoldable pub earlier : Option Awaited → Option Awaited → Option Awaited
 earlier none o = o
 earlier (some e) o = some e
 
--- the first future that stands where the rules look, with the type that it states
+-- the first future that stands where the rules look
 unfoldable mutual
-  pub awaited : Tree → Option Entry
+  pub awaited : Tree → Option Awaited
   awaited (node h u f) = cond (eqb (code h) 9) (some (record { number = wordOf h; type = u })) (awaitedIn (looks h f) f)
 
-  pub awaitedIn : {n : ℕ} → Places → Forest n → Option Entry
+  pub awaitedIn : {n : ℕ} → Places → Forest n → Option Awaited
   awaitedIn a end = none
   awaitedIn a (more t f) = earlier (cond (a 0) (awaited t) none) (awaitedIn (λ i. a (suc i)) f)

@@ -173,24 +173,31 @@ headFrom k n w =
     (cond (eqb k 18) (lproject n)
     (cond (eqb k 19) (bind w) (lit (str w)))))))))))))))))))
 
--- the same column as ranges, for each kind from 0 on: least and greatest n, least and greatest word
+-- the same column as ranges, for each kind from 0 on: least and greatest n, and the ranges that a word may lie in
+pub record Range : Type 0 where
+  pub least : ℕ
+  pub most : ℕ
+
 pub record Fields : Type 0 where
   pub nLow : ℕ
   pub nHigh : ℕ
-  pub wLow : ℕ
-  pub wHigh : ℕ
+  pub words : List Range
+
+-- one range, from a word to a word
+abbrev pub words-from : ℕ → ℕ → List Range
+words-from low high = record { least = low; most = high } ∷ []
 
 abbrev pub none-used : Fields
-none-used = record { nLow = 0; nHigh = 0; wLow = 0; wHigh = 0 }
+none-used = record { nLow = 0; nHigh = 0; words = words-from 0 0 }
 
 abbrev pub any-word : Fields
-any-word = record { nLow = 0; nHigh = 0; wLow = 0; wHigh = 4294967295 }
+any-word = record { nLow = 0; nHigh = 0; words = words-from 0 4294967295 }
 
 abbrev pub a-number : Fields
-a-number = record { nLow = 0; nHigh = 0; wLow = 1; wHigh = 65535 }
+a-number = record { nLow = 0; nHigh = 0; words = words-from 1 65535 }
 
 abbrev pub an-n : ℕ → ℕ → Fields
-an-n low high = record { nLow = low; nHigh = high; wLow = 0; wHigh = 0 }
+an-n low high = record { nLow = low; nHigh = high; words = words-from 0 0 }
 
 abbrev pub kindFields : List Fields
 kindFields =
@@ -247,8 +254,12 @@ raw r = code (r .head) ∷ nOf (r .head) ∷ r .type ∷ wordOf (r .head) ∷ []
 unfoldable pub rowOf : List ℕ → Row
 rowOf r = record { head = headFrom (kindNo r) (nNo r) (wordNo r); type = typeNo r }
 
+unfoldable pub withinOne : List Range → ℕ → Bool
+withinOne [] w = false
+withinOne (r ∷ rs) w = cond (within (r .least) (r .most) w) true (withinOne rs w)
+
 unfoldable pub fits : Fields → List ℕ → Bool
-fits f r = within (f .nLow) (f .nHigh) (nNo r) ∧ᵇ within (f .wLow) (f .wHigh) (wordNo r)
+fits f r = within (f .nLow) (f .nHigh) (nNo r) ∧ᵇ withinOne (f .words) (wordNo r)
 
 -- refusal 7: "bad kind, field or type number", of a row alone, in this order
 unfoldable pub rowFault : ℕ → ℕ → List ℕ → Option Fault

@@ -124,15 +124,40 @@ distinct (x ∷ xs) = not (member x xs) ∧ᵇ distinct xs
 unfoldable pub below : ℕ → ℕ → Bool
 below i t = ltb t i
 
--- the fields of row number i. "Unused fields are zero"; "a zero result means unused only in forms 1, 2, 3 and 5";
--- "tuple (n 1 to 8, names 0)"; "(n 0 to 8, names nonzero and distinct within the row)"
+-- the fields of row number i by its form. "Unused fields are zero"; "a zero result means unused only in forms 1, 2, 3 and 5"
+unfoldable pub plainOk : List ℕ → Bool
+plainOk r = eqb (partsNo r) 0 ∧ᵇ eqb (result r) 0
+
+unfoldable pub listOk : ℕ → List ℕ → Bool
+listOk i r = eqb (partsNo r) 0 ∧ᵇ below i (result r)
+
+-- "tuple (n 1 to 8, names 0)"
+unfoldable pub tupleOk : ℕ → List ℕ → Bool
+tupleOk i r = within 1 8 (partsNo r) ∧ᵇ eqb (result r) 0 ∧ᵇ zeros (names (parts r)) ∧ᵇ every (below i) (types (parts r))
+
+-- "(n 0 to 8, names nonzero and distinct within the row)"
+unfoldable pub namesOk : List ℕ → Bool
+namesOk xs = every nonzero xs ∧ᵇ distinct xs
+
+unfoldable pub functionOk : ℕ → List ℕ → Bool
+functionOk i r = leb (partsNo r) 8 ∧ᵇ below i (result r) ∧ᵇ namesOk (names (parts r)) ∧ᵇ every (below i) (types (parts r))
+
+-- a line a form, from 0 on, which is none
+abbrev pub formFields : ℕ → List ℕ → List Bool
+formFields i r =
+    false
+    -- 1 Str, 2 File, 3 Bool
+    ∷ plainOk r ∷ plainOk r ∷ plainOk r
+    -- 4 List
+    ∷ listOk i r
+    -- 5 tuple
+    ∷ tupleOk i r
+    -- 6 native function, 7 foreign function
+    ∷ functionOk i r ∷ functionOk i r
+    ∷ []
+
 unfoldable pub fieldsOk : ℕ → List ℕ → Bool
-fieldsOk i r =
-    zeros (drop (3 + 2 * partsNo r) r) ∧ᵇ
-    cond (ltb (formNo r) 4) (eqb (partsNo r) 0 ∧ᵇ eqb (result r) 0)
-    (cond (eqb (formNo r) 4) (eqb (partsNo r) 0 ∧ᵇ below i (result r))
-    (cond (eqb (formNo r) 5) (within 1 8 (partsNo r) ∧ᵇ eqb (result r) 0 ∧ᵇ zeros (names (parts r)) ∧ᵇ every (below i) (types (parts r)))
-    (leb (partsNo r) 8 ∧ᵇ below i (result r) ∧ᵇ every nonzero (names (parts r)) ∧ᵇ distinct (names (parts r)) ∧ᵇ every (below i) (types (parts r)))))
+fieldsOk i r = zeros (drop (3 + 2 * partsNo r) r) ∧ᵇ getD (formFields i r) (formNo r) false
 
 unfoldable pub sameNumbers : List ℕ → List ℕ → Bool
 sameNumbers [] [] = true

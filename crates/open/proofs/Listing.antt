@@ -10,7 +10,7 @@ use borrow.Author.Tests.{eq-eqb, ne-eqb, lt-ltb, le-ltb}
 use lib.ListN.{length, getD, take, drop, length-map, length-append, length-drop, drop-of-length-le, List·getD-map}
 use lib.Seq.{drop-cons, take-suc, take-all, getD-take, length-take-le}
 use Rattle.meaning.specs.Bytes.{_∧ᵇ_}
-use Rattle.meaning.specs.Steps.{Entry as Call}
+use Rattle.meaning.specs.Records.{Entry as Call}
 use Rattle.meaning.specs.Records.{listed, rises}
 use Rattle.meaning.specs.Entries.{without}
 use Rattle.open.specs.declared.Entry.{Entry}

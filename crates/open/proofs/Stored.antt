@@ -7,7 +7,7 @@ use native.Mathlib.Numerals.{add-one}
 use lib.ListN.{length, getD, take, drop, set, replicate, length-map, length-append}
 use lib.Seq.{sets, sets-eq, take-at, take-suc, take-suc-set, drop-drop, length-take-le}
 use Rattle.meaning.specs.Bytes.{Layout, width, number, spell, read, write, reads, writes, padded, entryRow}
-use Rattle.meaning.specs.Steps.{Entry as Call}
+use Rattle.meaning.specs.Records.{Entry as Call}
 use Rattle.meaning.specs.Records.{entryOf, rawEntry}
 use Rattle.meaning.proofs.Bytes.Layouts.{length-spell, length-write, length-writes}
 use Rattle.layout.proofs.Laws.{three-runs}

@@ -4,7 +4,7 @@ use mathlib.Core.Path.{_≡_}
 use mathlib.Core.List.{List, map}
 use mathlib.Core.Option.{Option, none, some}
 use lib.ListN.{length, take}
-use Rattle.meaning.specs.Steps.{Entry as Call}
+use Rattle.meaning.specs.Records.{Entry as Call}
 use Rattle.open.specs.declared.Entry.{Entry}
 use Rattle.open.specs.declared.OpenList.{OpenList}
 use Rattle.open.specs.declared.Listed.{Listed}

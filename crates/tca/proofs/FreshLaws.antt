@@ -95,7 +95,7 @@ module _ (m : Limits) (s : List ℕ) (room : ℕ) (ok : loadVerdict m s room ≡
   unfolding fileTree fileRows
   rows-are =
       let (_, l, _) = accepted-legal m s room ok in
-      let (a, b, _) = shape-whole (fileTypeCount s) (fileRows s) (l .one-tree) (reads-wide termRow (fileRowCount s) _) in
+      let (a, b, _) = shape-whole (fileTypeCount s) (fileRows s) (rw (l .edition) at (l .one-tree)) (reads-wide termRow (fileRowCount s) _) in
       (a, b ∙ length-reads termRow (fileRowCount s) _)
 
   module _ (bytes : AllBytes s) where

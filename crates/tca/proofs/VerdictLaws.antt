@@ -15,7 +15,7 @@ use Rattle.meaning.specs.Terms.{kindNo, rowOf, shape, treeOf}
 use Rattle.meaning.specs.Types.{formOf, empty, badType}
 use Rattle.meaning.specs.Typing.{later, firstBad}
 use Rattle.meaning.specs.Records.{firstNot, recordOf}
-use Rattle.meaning.specs.Entries.{require, refuse, refuseShape, fileNo, fileTypeCount, fileRowCount, fileTypes, fileRows, fileTree, noFuture, programVerdict, loadVerdict, leaves, loadedState, load, LoadSays}
+use Rattle.meaning.specs.Entries.{require, refuse, refuseShape, fileNo, fileEdition, fileTypeCount, fileRowCount, fileTypes, fileRows, fileTree, noFuture, programVerdict, loadVerdict, leaves, loadedState, load, LoadSays}
 use Rattle.meaning.specs.declared.Fault.{Fault}
 use Rattle.meaning.specs.declared.Shape.the-variants.{Whole, Bad}
 use Rattle.meaning.specs.declared.Refusal.{Refusal}
@@ -67,8 +67,8 @@ counts-within m s e = (within-if _ _ _ (left _ _ (right _ _ e)) .1, within-if _ 
 
 -- Types, shape, futures, typing ----------------------------------------------------------------------------------
 
--- over the n types and k rows that the file has
-module _ (s : List ℕ) (n k : ℕ) (p : n ≡ fileTypeCount s) (q : k ≡ fileRowCount s) where
+-- over the edition, the n types and the k rows that the file has
+module _ (s : List ℕ) (v n k : ℕ) (o : v ≡ fileEdition s) (p : n ≡ fileTypeCount s) (q : k ≡ fileRowCount s) where
   types-in : reads typeRow n (drop 10 s) ≡ fileTypes s
   unfolding fileTypes width
   types-in = rw (← p)
@@ -77,22 +77,25 @@ module _ (s : List ℕ) (n k : ℕ) (p : n ≡ fileTypeCount s) (q : k ≡ fileR
   unfolding fileRows width
   rows-in = rw (← p, ← q)
 
-  pub bad-type-row : (i : ℕ) → some i ≡ badType 1 (reads typeRow n (drop 10 s)) → Refused (TypeRow i) ≡ programVerdict s
+  types-are : badType v (reads typeRow n (drop 10 s)) ≡ badType (fileEdition s) (fileTypes s)
+  types-are = ap (badType v) types-in ∙ ap (λ (x : ℕ). badType x (fileTypes s)) o
+
+  pub bad-type-row : (i : ℕ) → some i ≡ badType v (reads typeRow n (drop 10 s)) → Refused (TypeRow i) ≡ programVerdict s
   unfolding programVerdict refuse
-  bad-type-row i e = rw (← (e ∙ ap (badType 1) types-in))
+  bad-type-row i e = rw (← (e ∙ types-are))
 
-  module _ (a : none ≡ badType 1 (reads typeRow n (drop 10 s))) where
-    types-good : badType 1 (fileTypes s) ≡ none
-    types-good = sym (a ∙ ap (badType 1) types-in)
+  module _ (a : none ≡ badType v (reads typeRow n (drop 10 s))) where
+    types-good : badType (fileEdition s) (fileTypes s) ≡ none
+    types-good = sym (a ∙ types-are)
 
-    shape-is : shape 1 n (reads termRow k (drop (10 + 36 * n) s)) ≡ shape 1 (fileTypeCount s) (fileRows s)
-    shape-is = ap (shape 1 n) rows-in ∙ ap (λ (c : ℕ). shape 1 c (fileRows s)) p
+    shape-is : shape v n (reads termRow k (drop (10 + 36 * n) s)) ≡ shape (fileEdition s) (fileTypeCount s) (fileRows s)
+    shape-is = ap (shape v n) rows-in ∙ ap (λ (c : ℕ). shape v c (fileRows s)) p ∙ ap (λ (x : ℕ). shape x (fileTypeCount s) (fileRows s)) o
 
-    pub bad-row : (f : Fault) (i : ℕ) → Bad f i ≡ shape 1 n (reads termRow k (drop (10 + 36 * n) s)) → Refused (Row f i) ≡ programVerdict s
+    pub bad-row : (f : Fault) (i : ℕ) → Bad f i ≡ shape v n (reads termRow k (drop (10 + 36 * n) s)) → Refused (Row f i) ≡ programVerdict s
     unfolding programVerdict refuse refuseShape
     bad-row f i e = rw (types-good, ← (e ∙ shape-is))
 
-    module _ (b : Whole ≡ shape 1 n (reads termRow k (drop (10 + 36 * n) s))) where
+    module _ (b : Whole ≡ shape v n (reads termRow k (drop (10 + 36 * n) s))) where
       pub future-row : (i : ℕ) → some i ≡ firstNot noFuture (reads termRow k (drop (10 + 36 * n) s)) → Refused (Future i) ≡ programVerdict s
       unfolding programVerdict refuse refuseShape
       future-row i e = rw (types-good, ← (b ∙ shape-is), ← (e ∙ ap (firstNot noFuture) rows-in))

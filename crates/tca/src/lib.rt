@@ -14,7 +14,7 @@ ghost use lib.ListN.{length, drop};
 ghost use Rattle.layout.specs.Rows.{found, board};
 ghost use Rattle.meaning.specs.Bytes.{reads, termRow, arm};
 ghost use Rattle.meaning.specs.Records.{firstNot};
-ghost use Rattle.meaning.specs.Entries.{fileTypeCount, fileRowCount, noFuture, programVerdict, loadVerdict, LoadSays};
+ghost use Rattle.meaning.specs.Entries.{fileEdition, fileTypeCount, fileRowCount, noFuture, programVerdict, loadVerdict, LoadSays};
 ghost use Rattle.tca.specs.Loads.{Tells};
 
 // The edition of the file format that is read.
@@ -58,19 +58,19 @@ fn first_future(bytes: &[u8], base: usize, rows: usize) -> Found
     Found::Nothing
 }
 
-// Refusals 6 to 9 of a file whose counts are `types` and `rows`.
-fn program_verdict(file: &[u8], types: u16, rows: u16) -> meaning::Verdict
-    requires { ⌜ (10 + 36 * types + 8 * rows ≤ length (now file)) × (types ≤ 256) × (rows ≤ 2048) × (types ≡ fileTypeCount (now file)) × (rows ≡ fileRowCount (now file)) ⌝ }
+// Refusals 6 to 9 of a file of an edition, whose counts are `types` and `rows`.
+fn program_verdict(file: &[u8], edition: u16, types: u16, rows: u16) -> meaning::Verdict
+    requires { ⌜ (10 + 36 * types + 8 * rows ≤ length (now file)) × (types ≤ 256) × (rows ≤ 2048) × (types ≡ fileTypeCount (now file)) × (rows ≡ fileRowCount (now file)) × (edition ≡ fileEdition (now file)) ⌝ }
     ensures { λ v. ⌜ v ≡ programVerdict (now (file .entry)) ⌝ }
 {
     let count = types as usize;
     let n = rows as usize;
     let at = 10 + 36 * count;
-    let bad = types::bad_type(file, 10, count, VERSION);
+    let bad = types::bad_type(file, 10, count, edition);
     if let Found::At(i) = bad {
         return meaning::Verdict::Refused(Refusal::TypeRow(i));
     }
-    let form = terms::check_shape(file, at, n, types, VERSION);
+    let form = terms::check_shape(file, at, n, types, edition);
     if let Shape::Bad(f, i) = form {
         return meaning::Verdict::Refused(Refusal::Row(f, i));
     }
@@ -97,7 +97,8 @@ fn load_verdict(file: &[u8], room: usize, m: Limits) -> meaning::Verdict
         return meaning::Verdict::Refused(Refusal::Size);
     }
     if head::is_marked(file) {
-        if head::version(file) != VERSION {
+        let edition = head::version(file);
+        if edition != VERSION {
             return meaning::Verdict::Refused(Refusal::Version);
         }
         if head::counts_ok(file, m) {
@@ -106,7 +107,7 @@ fn load_verdict(file: &[u8], room: usize, m: Limits) -> meaning::Verdict
             if file.len() != 10 + 36 * types as usize + 8 * rows as usize {
                 return meaning::Verdict::Refused(Refusal::Size);
             }
-            return program_verdict(file, types, rows);
+            return program_verdict(file, edition, types, rows);
         }
         return meaning::Verdict::Refused(Refusal::Count);
     }

@@ -10,7 +10,7 @@ use lib.Dec.{eqb, leb, ltb}
 use borrow.Author.Tests.{eq-eqb, ne-eqb, lt-ltb, le-ltb, le-leb, lt-leb}
 use lib.ListN.{getD, List·getD-eq-default}
 use Rattle.meaning.specs.Bytes.{_∧ᵇ_, within}
-use Rattle.meaning.specs.Terms.{Head, lit, str, arity, headFrom, Fields, none-used, kindFields, lastKind, fits, rowFault}
+use Rattle.meaning.specs.Terms.{Head, lit, str, arity, headFrom, Fields, words-from, none-used, kindFields, lastKind, withinOne, fits, rowFault}
 use Rattle.meaning.specs.declared.Fault.{Fault}
 use Rattle.meaning.specs.declared.Fault.the-variants.{Kind, Field, Number}
 
@@ -128,16 +128,30 @@ module _ (edition count k n t w : ℕ) where
 
     pub n-many : field .nHigh < n → rowFault edition count (k ∷ n ∷ t ∷ w ∷ []) ≡ some Field
     unfolding fits within
-    n-many a = known ∙ rw (lt-leb n (field .nHigh) a, never (leb (field .nLow) n)) (rw (none-then (within (field .wLow) (field .wHigh) w)) refl)
+    n-many a = known ∙ rw (lt-leb n (field .nHigh) a, never (leb (field .nLow) n)) (rw (none-then (withinOne (field .words) w)) refl)
 
-    pub w-few : w < field .wLow → rowFault edition count (k ∷ n ∷ t ∷ w ∷ []) ≡ some Field
-    unfolding fits within
-    w-few a = known ∙ rw (lt-leb (field .wLow) w a, none-then (leb w (field .wHigh)), never (leb (field .nLow) n ∧ᵇ leb n (field .nHigh))) refl
+    -- where the words are of one range
+    module _ (least most : ℕ) (one : field .words ≡ words-from least most) where
+      word-range : withinOne (field .words) w ≡ within least most w
+      unfolding withinOne
+      word-range = rw one (same (within least most w))
+        where
+          same : (b : Bool) → cond b true false ≡ b
+          same true = refl
+          same false = refl
 
-    pub w-many : field .wHigh < w → rowFault edition count (k ∷ n ∷ t ∷ w ∷ []) ≡ some Field
-    unfolding fits within
-    w-many a = known ∙ rw (lt-leb w (field .wHigh) a, never (leb (field .wLow) w), never (leb (field .nLow) n ∧ᵇ leb n (field .nHigh))) refl
+      no-word : within least most w ≡ false → rowFault edition count (k ∷ n ∷ t ∷ w ∷ []) ≡ some Field
+      unfolding fits
+      no-word e = known ∙ rw (word-range, e, never (within (field .nLow) (field .nHigh) n)) refl
 
-    pub in-range : field .nLow ≤ n → n ≤ field .nHigh → field .wLow ≤ w → w ≤ field .wHigh → rowFault edition count (k ∷ n ∷ t ∷ w ∷ []) ≡ cond (ltb t count) none (some Number)
-    unfolding fits within _∧ᵇ_
-    in-range a b c d = known ∙ rw (le-leb (field .nLow) n a, le-leb n (field .nHigh) b, le-leb (field .wLow) w c, le-leb w (field .wHigh) d) refl
+      pub w-few : w < least → rowFault edition count (k ∷ n ∷ t ∷ w ∷ []) ≡ some Field
+      unfolding within
+      w-few a = no-word (rw (lt-leb least w a, none-then (leb w most)) refl)
+
+      pub w-many : most < w → rowFault edition count (k ∷ n ∷ t ∷ w ∷ []) ≡ some Field
+      unfolding within
+      w-many a = no-word (rw (lt-leb w most a, never (leb least w)) refl)
+
+      pub in-range : field .nLow ≤ n → n ≤ field .nHigh → least ≤ w → w ≤ most → rowFault edition count (k ∷ n ∷ t ∷ w ∷ []) ≡ cond (ltb t count) none (some Number)
+      unfolding fits within _∧ᵇ_
+      in-range a b c d = known ∙ rw (word-range, le-leb (field .nLow) n a, le-leb n (field .nHigh) b, le-leb least w c, le-leb w most d) refl

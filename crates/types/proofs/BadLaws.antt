@@ -13,10 +13,10 @@ use lib.Dec.{ltb, leb}
 use lib.ListN.{length, take, drop, getD, replicate, drop-of-length-le}
 use lib.Seq.{drop-cons, take-suc, length-take-le}
 use Rattle.meaning.specs.Bytes.{_∧ᵇ_, within, zeros, Layout, width, reads}
-use Rattle.meaning.specs.Types.{Form, formNo, partsNo, result, parts, types, names, formOf, every, below, groundForm, ground, lastForm, fieldsOk, fresh, groundCall, typeOk, badTypeFrom, badType}
+use Rattle.meaning.specs.Types.{Form, formNo, partsNo, result, parts, types, names, formOf, every, below, groundForm, ground, lastForm, namesOk, functionOk, fieldsOk, fresh, groundCall, typeOk, badTypeFrom, badType}
 use Rattle.meaning.proofs.Trees.Tests.{left, right}
 use Rattle.meaning.proofs.Bytes.TypeTables.{ground-below}
-use Rattle.types.specs.Table.{table, functionOk, namesOk, partsGround, Truthful}
+use Rattle.types.specs.Table.{table, partsGround, Truthful}
 use Rattle.types.proofs.Laws.{form-row, form-absent}
 use Rattle.types.proofs.Checks.{fields-function}
 use Rattle.types.proofs.GroundLaws.{ground-parts, partGround}
@@ -60,7 +60,7 @@ fields-zeros i r h = left _ _ h
 call-below : (i : ℕ) (r : List ℕ) → formNo r ≡ 7 → fieldsOk i r ≡ true → (result r < i) × (every (below i) (types (parts r)) ≡ true)
 unfolding functionOk below
 call-below i r e h =
-    let z : functionOk i r ≡ true = sym (fields-function i r (formNo r) (partsNo r) refl refl (fields-zeros i r h) (omega arith) (λ q. omega arith) (λ q. omega arith)) ∙ h in
+    let z : functionOk i r ≡ true = sym (fields-function i r (formNo r) (partsNo r) refl refl (fields-zeros i r h) (omega arith) (omega arith)) ∙ h in
     let p = every-last (leb (partsNo r) 8) (below i (result r)) (namesOk (names (parts r))) (every (below i) (types (parts r))) z in
     (ltb-true (result r) i (p .0), p .1)
 

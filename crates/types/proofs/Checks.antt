@@ -4,14 +4,15 @@ use mathlib.Core.Path.{_≡_, refl, ap, sym, _∙_}
 use mathlib.Core.Bool.{Bool, true, false}
 use mathlib.Core.List.{List, [], _∷_}
 use native.Mathlib.Omega.{arith}
+use native.Mathlib.Decide.{ℕ-discrete}
 use native.Mathlib.Numerals.{add-one}
 use borrow.Author.Tests.{eq-eqb, ne-eqb, lt-ltb, le-ltb, le-leb, lt-leb}
 use lib.Dec.{leb}
-use lib.ListN.{length, drop, getD, drop-of-length-le}
+use lib.ListN.{length, drop, getD, drop-of-length-le, List·getD-eq-default}
 use lib.Seq.{drop-cons}
 use Rattle.meaning.specs.Bytes.{_∧ᵇ_, within, zeros}
-use Rattle.meaning.specs.Types.{formNo, partsNo, result, parts, names, types, lastForm, every, nonzero, member, distinct, below, fieldsOk, sameNumbers, fresh}
-use Rattle.types.specs.Table.{plainOk, listOk, tupleOk, functionOk, namesOk, firstNames, firstTypes}
+use Rattle.meaning.specs.Types.{formNo, partsNo, result, parts, names, types, lastForm, every, nonzero, member, distinct, below, plainOk, listOk, tupleOk, namesOk, functionOk, formFields, fieldsOk, sameNumbers, fresh}
+use Rattle.types.specs.Table.{firstNames, firstTypes}
 
 pub last-other : (e : ℕ) → (e ≡ 1 → ⊥) → lastForm e ≡ 0
 unfolding lastForm
@@ -103,11 +104,6 @@ module _ (r : List ℕ) (z : length r ≡ 19) (k : ℕ) where
 
 -- Fields by form -------------------------------------------------------------------------------------------------
 
-and-assoc : (a b c : Bool) → ((a ∧ᵇ b) ∧ᵇ c) ≡ (a ∧ᵇ (b ∧ᵇ c))
-unfolding _∧ᵇ_
-and-assoc true b c = refl
-and-assoc false b c = refl
-
 module _ (i : ℕ) (r : List ℕ) (n : ℕ) (g : n ≡ partsNo r) where
   pub tuple-none : n ≡ 0 → tupleOk i r ≡ false
   unfolding tupleOk within _∧ᵇ_
@@ -150,29 +146,45 @@ module _ (i : ℕ) (r : List ℕ) (n : ℕ) (g : n ≡ partsNo r) where
           let b : below i v ≡ true = unfold below in lt-ltb v i q in
           rw (← g, le-leb n 8 h, ← e, b, f)
 
+plain-line : (i : ℕ) (r : List ℕ) (f : ℕ) → 1 ≤ f → f < 4 → getD (formFields i r) f false ≡ plainOk r
+plain-line i r zero h k = absurd (omega arith)
+plain-line i r (suc zero) h k = refl
+plain-line i r (suc (suc zero)) h k = refl
+plain-line i r (suc (suc (suc zero))) h k = refl
+plain-line i r (suc (suc (suc (suc f)))) h k = absurd (omega arith)
+
+function-line : (i : ℕ) (r : List ℕ) (f : ℕ) → 6 ≤ f → f < 8 → getD (formFields i r) f false ≡ functionOk i r
+function-line i r f h k = elim (ℕ-discrete f 6) [ yes e ↦ rw e refl | no e ↦ let q : f ≡ 7 = omega arith in rw q refl ]
+
 module _ (i : ℕ) (r : List ℕ) (f n : ℕ) (e : f ≡ formNo r) (g : n ≡ partsNo r) where
   pub fields-rest : zeros (drop (3 + 2 * n) r) ≡ false → fieldsOk i r ≡ false
   unfolding fieldsOk _∧ᵇ_
   fields-rest q = rw (← g, q)
 
   module _ (q : zeros (drop (3 + 2 * n) r) ≡ true) where
-    pub fields-plain : f < 4 → fieldsOk i r ≡ plainOk r
-    unfolding fieldsOk plainOk _∧ᵇ_
-    fields-plain h = rw (← g, q, ← e, lt-ltb f 4 h)
+    pub fields-none : f ≡ 0 → fieldsOk i r ≡ false
+    unfolding fieldsOk _∧ᵇ_
+    fields-none h = rw (← g, q, ← e, h)
+
+    pub fields-other : 8 ≤ f → fieldsOk i r ≡ false
+    unfolding fieldsOk _∧ᵇ_
+    fields-other h = rw (← g, q, ← e) (List·getD-eq-default (formFields i r) false {n = f} h)
+
+    pub fields-plain : 1 ≤ f → f < 4 → fieldsOk i r ≡ plainOk r
+    unfolding fieldsOk _∧ᵇ_
+    fields-plain h k = rw (← g, q, ← e) (plain-line i r f h k)
 
     pub fields-list : f ≡ 4 → fieldsOk i r ≡ listOk i r
-    unfolding fieldsOk listOk _∧ᵇ_
+    unfolding fieldsOk _∧ᵇ_
     fields-list h = rw (← g, q, ← e, h)
 
     pub fields-tuple : f ≡ 5 → fieldsOk i r ≡ tupleOk i r
-    unfolding fieldsOk tupleOk _∧ᵇ_
+    unfolding fieldsOk _∧ᵇ_
     fields-tuple h = rw (← g, q, ← e, h)
 
-    pub fields-function : 4 ≤ f → (f ≡ 4 → ⊥) → (f ≡ 5 → ⊥) → fieldsOk i r ≡ functionOk i r
-    unfolding fieldsOk functionOk namesOk
-    fields-function h j k =
-        unfold _∧ᵇ_ in rw (← g, q, ← e, le-ltb f 4 h, ne-eqb f 4 j, ne-eqb f 5 k)
-        (ap (λ (b : Bool). leb n 8 ∧ᵇ below i (result r) ∧ᵇ b) (sym (and-assoc (every nonzero (names (parts r))) (distinct (names (parts r))) (every (below i) (types (parts r))))))
+    pub fields-function : 6 ≤ f → f < 8 → fieldsOk i r ≡ functionOk i r
+    unfolding fieldsOk _∧ᵇ_
+    fields-function h k = rw (← g, q, ← e) (function-line i r f h k)
 
 -- Equal rows -----------------------------------------------------------------------------------------------------
 

@@ -1,13 +1,12 @@
--- Rows of a type table in bytes, the parts of the fields test, and what a memo of ground types may say. Assumes nothing.
+-- Rows of a type table in bytes, and what a memo of ground types may say. Assumes nothing.
 use Prim.Native.Nat.{ℕ, _+_, _*_}
 use mathlib.Core.Path.{_≡_}
 use mathlib.Core.Logic.{_⊎_}
 use mathlib.Core.Bool.{Bool, true, false}
 use mathlib.Core.List.{List}
-use lib.Dec.{eqb, leb}
 use lib.ListN.{take, drop, getD}
-use Rattle.meaning.specs.Bytes.{_∧ᵇ_, within, zeros, read, reads, typeRow}
-use Rattle.meaning.specs.Types.{Form, types, names, pairs, partsNo, result, parts, every, nonzero, distinct, below, ground}
+use Rattle.meaning.specs.Bytes.{read, reads, typeRow}
+use Rattle.meaning.specs.Types.{Form, types, names, pairs, parts, every, ground}
 
 -- row t of the type rows that begin at base, and the first `count` of them
 abbrev pub typeAt : List ℕ → ℕ → ℕ → List ℕ
@@ -22,22 +21,6 @@ firstNames n r = names (take n (pairs (drop 3 r)))
 
 abbrev pub firstTypes : ℕ → List ℕ → List ℕ
 firstTypes n r = types (take n (pairs (drop 3 r)))
-
--- fieldsOk by form: 1 to 3, list, tuple, function
-unfoldable pub plainOk : List ℕ → Bool
-plainOk r = eqb (partsNo r) 0 ∧ᵇ eqb (result r) 0
-
-unfoldable pub listOk : ℕ → List ℕ → Bool
-listOk i r = eqb (partsNo r) 0 ∧ᵇ below i (result r)
-
-unfoldable pub tupleOk : ℕ → List ℕ → Bool
-tupleOk i r = within 1 8 (partsNo r) ∧ᵇ eqb (result r) 0 ∧ᵇ zeros (names (parts r)) ∧ᵇ every (below i) (types (parts r))
-
-unfoldable pub namesOk : List ℕ → Bool
-namesOk xs = every nonzero xs ∧ᵇ distinct xs
-
-unfoldable pub functionOk : ℕ → List ℕ → Bool
-functionOk i r = leb (partsNo r) 8 ∧ᵇ below i (result r) ∧ᵇ namesOk (names (parts r)) ∧ᵇ every (below i) (types (parts r))
 
 -- groundCall's arguments
 unfoldable pub partsGround : (ℕ → Form) → List ℕ → Bool

@@ -4,9 +4,9 @@ ghost use mathlib.Core.Path.{_≡_};
 ghost use Prim.Native.Nat.{_+_, _*_, _≤_, _<_};
 ghost use lib.ListN.{length, drop, set};
 ghost use Rattle.meaning.specs.Bytes.{zeros, reads, typeRow};
-ghost use Rattle.meaning.specs.Types.{parts, every, below, member, sameNumbers, formOf, ground, lastForm, fieldsOk, fresh, groundCall, typeOk, badType};
+ghost use Rattle.meaning.specs.Types.{parts, every, below, member, sameNumbers, formOf, ground, lastForm, plainOk, listOk, tupleOk, namesOk, functionOk, fieldsOk, fresh, groundCall, typeOk, badType};
 ghost use Rattle.layout.specs.Rows.{found};
-ghost use Rattle.types.specs.Table.{typeAt, table, firstNames, firstTypes, plainOk, listOk, tupleOk, namesOk, functionOk, partsGround, mark, Truthful, Told};
+ghost use Rattle.types.specs.Table.{typeAt, table, firstNames, firstTypes, partsGround, mark, Truthful, Told};
 
 // How many parts row t has: at most eight are there.
 pub fn part_count(types: &[u8], base: usize, t: usize) -> usize
@@ -182,6 +182,9 @@ fn fields_ok(types: &[u8], base: usize, t: usize) -> bool
     let form = layout::form_in(types, base, t);
     let n = layout::parts_in(types, base, t) as usize;
     if rest_zero(types, base, t, n) {
+        if form == 0 {
+            return false;
+        }
         if form < 4 {
             return plain_ok(types, base, t);
         }
@@ -191,7 +194,10 @@ fn fields_ok(types: &[u8], base: usize, t: usize) -> bool
         if form == 5 {
             return tuple_ok(types, base, t);
         }
-        return function_ok(types, base, t);
+        if form < 8 {
+            return function_ok(types, base, t);
+        }
+        return false;
     }
     false
 }

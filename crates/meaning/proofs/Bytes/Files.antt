@@ -278,7 +278,7 @@ no-futures (r ∷ l) (e, d) = (due r e, no-futures l d)
 module _ (m : Limits) (file : List ℕ) (l : LegalFile m file) where
   file-tree : (map raw (flat (fileTree file)) ≡ fileRows file) × (size (fileTree file) ≡ length (fileRows file)) × Every (legal (fileTypeCount file)) (fileTree file)
   unfolding fileTree fileRows
-  file-tree = shape-whole (fileTypeCount file) (fileRows file) (l .one-tree) (reads-wide termRow (fileRowCount file) _)
+  file-tree = shape-whole (fileTypeCount file) (fileRows file) (rw (l .edition) at (l .one-tree)) (reads-wide termRow (fileRowCount file) _)
 
   pub file-size : size (fileTree file) ≡ fileRowCount file
   unfolding fileRows
@@ -296,7 +296,7 @@ module _ (m : Limits) (file : List ℕ) (l : LegalFile m file) where
         typesSome = omega (arith, l .types-some, file-type-total);
         typesMany = omega (arith, l .types-many, file-type-total);
         typesWide = reads-fit typeRow (fileTypeCount file) (drop (width fileHead) file) (bytes-drop (width fileHead) file bytes);
-        typesPass = l .types-good;
+        typesPass = rw (l .edition) at (l .types-good);
         rowsMany = omega (arith, l .rows-many, file-size);
         legalRows = rw file-type-total (file-tree .2);
         typed = t;
@@ -372,8 +372,8 @@ module _ (m : Limits) (ts : List (List ℕ)) (t : Tree) (typesFew : m .types ≤
         rows-some = omega (arith, k, row-total, size-some t);
         rows-many = omega (arith, k, row-total, program .rowsMany);
         size = h .size;
-        types-good = rw program-types (program .typesPass);
-        one-tree = rw (n, rs) (whole-of (length ts) t (program .legalRows));
+        types-good = rw (h .edition, program-types) (program .typesPass);
+        one-tree = rw (h .edition, n, rs) (whole-of (length ts) t (program .legalRows));
         no-future = rw rs (all-pass noFuture _ (calm-rows (flat t) (every-rows _ t (program .calm))));
       }
 

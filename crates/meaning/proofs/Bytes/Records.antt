@@ -15,8 +15,7 @@ use Rattle.meaning.specs.Bytes.{_∧ᵇ_, Layout, width, read, write, re
 use Rattle.meaning.specs.Types.{Form, formOf, ground, badType, empty}
 use Rattle.meaning.specs.Terms.{Head, Tree, node, headOf, tyOf, Row, flat, size, code, wordOf, Fields, none-used, kindFields, raw, rowOf, shape, treeOf}
 use Rattle.meaning.specs.Typing.{given, Typed, firstBad}
-use Rattle.meaning.specs.Steps.{Entry}
-use Rattle.meaning.specs.Records.{State, version, recordMark, rawEntry, headNumbers, recordOf, headNo, typeCount, rowCount, openCount, nextNumber, programType, typesIn, entriesIn, rowsIn, entryOf, stateOf, firstNot, nothing, isWhole, headSound, unused, spaceSound, typesSound, shapeSound, termSound, rises, entrySound, callsSound, listed, futureListed, futuresSound, programSound, sound}
+use Rattle.meaning.specs.Records.{State, Entry, version, recordMark, rawEntry, headNumbers, recordOf, headNo, recordEdition, typeCount, rowCount, openCount, nextNumber, programType, typesIn, entriesIn, rowsIn, entryOf, stateOf, firstNot, nothing, isWhole, headSound, unused, spaceSound, typesSound, shapeSound, termSound, rises, entrySound, callsSound, listed, futureListed, futuresSound, programSound, sound}
 use Rattle.meaning.specs.declared.Shape.{Shape}
 use Rattle.meaning.specs.declared.Shape.the-variants.{Whole, Bad}
 use Rattle.meaning.proofs.Trees.Tests.{both, left, right, eq-same, none-some, within-if, within-of, numbers-is, numbers-same}
@@ -24,7 +23,7 @@ use Rattle.meaning.proofs.Trees.Parse.{length-flat, tree-of-flat}
 use Rattle.meaning.proofs.Typing.FirstBad.{given-is, given-of, typed-if, typed-of}
 use Rattle.meaning.proofs.Trees.EachRow.{Every, AllRows, Due, Listed, every-rows, rows-every}
 use Rattle.meaning.proofs.Bytes.Layouts.{AllBytes, joins, bytes-append, bytes-drop, bytes-padded, padded-length, padded-back, zeros-replicate, pow256, Fits, Each, each-at, each-map, AllFit, Wide, length-read, length-write, bytes-write, read-write, write-read, length-reads, reads-fit, length-writes, bytes-writes, fields-from, reads-writes, writes-reads, reads-wide}
-use Rattle.meaning.proofs.Bytes.RowTables.{passes, legal, future-code, rows-raw, in-range, last-kind, shape-whole, whole-of}
+use Rattle.meaning.proofs.Bytes.RowTables.{passes, legal, future-code, rows-raw, upTo, word-up-to, in-range, last-kind, shape-whole, whole-of}
 use Rattle.meaning.proofs.Bytes.TypeTables.{promised, ground-known}
 
 -- A part of a record: rows in front, zeros behind ------------------------------------------------------------------
@@ -108,10 +107,10 @@ module _ {A : Type 0} (p : A → Bool) where
 
 -- n fits a byte and word four, of every kind
 unfoldable narrow : Fields → Bool
-narrow f = leb (f .nHigh) 255 ∧ᵇ leb (f .wHigh) 4294967295
+narrow f = leb (f .nHigh) 255 ∧ᵇ upTo 4294967295 (f .words)
 
 kinds-narrow : Each (λ f. narrow f ≡ true) kindFields
-unfolding narrow firstNot _∧ᵇ_
+unfolding narrow upTo firstNot _∧ᵇ_
 kinds-narrow = none-fails narrow kindFields refl
 
 pub row-fits : (count : ℕ) (r : Row) → count ≤ 65536 → legal count (r .head) (r .type) → Fits termRow (raw r)
@@ -121,8 +120,8 @@ row-fits count r h e =
     let k : code (r .head) < 20 = omega (arith, last-kind version, g .kindHigh) in
     let q = each-at (λ f. narrow f ≡ true) kindFields (code (r .head)) none-used kinds-narrow k in
     let a : getD kindFields (code (r .head)) none-used .nHigh ≤ 255 = leb-true _ 255 (left _ _ q) in
-    let b : getD kindFields (code (r .head)) none-used .wHigh ≤ 4294967295 = leb-true _ 4294967295 (right _ _ q) in
-    (omega arith, (omega (arith, g .nTo), (omega (arith, g .typeBelow), (omega (arith, g .wordTo), tt))))
+    let b : wordOf (r .head) ≤ 4294967295 = word-up-to 4294967295 (getD kindFields (code (r .head)) none-used .words) (wordOf (r .head)) (right _ _ q) (g .wordIn) in
+    (omega arith, (omega (arith, g .nTo), (omega (arith, g .typeBelow), (omega arith, tt))))
 
 pub rows-fit : (count : ℕ) (l : List Row) → count ≤ 65536 → AllRows (legal count) l → AllFit termRow (map raw l)
 unfolding Each AllRows
@@ -230,6 +229,10 @@ module _ (m : Limits) (s : State) (small : Small m) (good : Good m s) where
   unfolding headNumbers
   next-number = ap (λ (l : List ℕ). getD l 8 0) read-head
 
+  edition-kept : recordEdition (recordOf m s) ≡ version
+  unfolding headNumbers
+  edition-kept = ap (λ (l : List ℕ). getD l 3 0) read-head
+
   pub program-type : programType (recordOf m s) ≡ s .program
   unfolding headNumbers
   program-type = ap (λ (l : List ℕ). getD l 9 0) read-head
@@ -316,8 +319,8 @@ module _ (m : Limits) (s : State) (small : Small m) (good : Good m s) where
   sound-record =
       both _ _ head-sound
       (both _ _ space-sound
-      (both _ _ (rw (types-in, good .typesPass) refl)
-      (both _ _ (rw (type-count, rows-in, whole-of (length (s .types)) (s .tree) (good .legalRows)) refl)
+      (both _ _ (rw (edition-kept, types-in, good .typesPass) refl)
+      (both _ _ (rw (edition-kept, type-count, rows-in, whole-of (length (s .types)) (s .tree) (good .legalRows)) refl)
       (both _ _ (rw (types-in, tree-in, typed-of (formOf (s .types)) empty (s .tree) (good .typed)) refl)
       (both _ _ (both _ _ (rw calls-in (good .callsRise)) (rw (types-in, next-number, entries-in, all-pass (entrySound (formOf (s .types)) (s .next)) _ (entries-sound (formOf (s .types)) (s .next) (s .calls) (good .callsBelow) (good .callsGround))) refl))
       (both _ _ (rw (calls-in, rows-in, all-pass (futureListed (s .calls)) _ (rows-due (s .calls) (flat (s .tree)) (every-rows _ (s .tree) (good .listed)))) refl)
@@ -351,6 +354,7 @@ module _ (m : Limits) (b : List ℕ) (small : Small m) (long : length b ≡ reco
   -- what the header of a sound record says
   pub record Header : Type 0 where
     pub mark : take 5 (read recordHead b) ≡ recordMark
+    pub edition : recordEdition b ≡ version
     pub typesSome : 1 ≤ typeCount b
     pub typesMany : typeCount b ≤ m .types
     pub rowsMany : rowCount b ≤ m .rows
@@ -360,7 +364,7 @@ module _ (m : Limits) (b : List ℕ) (small : Small m) (long : length b ≡ reco
     pub zeroField : headNo 10 b ≡ 0
 
   pub header : Header
-  unfolding sound headSound
+  unfolding sound headSound read
   header =
       let e0 = left _ _ ok in
       let e1 = right _ _ e0 in
@@ -371,6 +375,7 @@ module _ (m : Limits) (b : List ℕ) (small : Small m) (long : length b ≡ reco
       let n = within-if 1 (suc (m .lastNumber)) (nextNumber b) (left _ _ e4) in
       record {
         mark = numbers-is _ _ (left _ _ e0);
+        edition = ap (λ (l : List ℕ). getD l 3 0) (numbers-is _ _ (left _ _ e0));
         typesSome = t .0;
         typesMany = t .1;
         rowsMany = within-if 1 (m .rows) (rowCount b) (left _ _ e2) .1;
@@ -385,8 +390,8 @@ module _ (m : Limits) (b : List ℕ) (small : Small m) (long : length b ≡ reco
     pub typesZero : unused typeRow typesAt (typeCount b) (m .types) b ≡ true
     pub callsZero : unused entryRow (callsAt m) (openCount b) (m .calls) b ≡ true
     pub rowsZero : unused termRow (rowsAt m) (rowCount b) (m .rows) b ≡ true
-    pub types : badType version (typesIn b) ≡ none
-    pub shape : shape version (typeCount b) (rowsIn m b) ≡ Whole
+    pub types : badType (recordEdition b) (typesIn b) ≡ none
+    pub shape : shape (recordEdition b) (typeCount b) (rowsIn m b) ≡ Whole
     pub term : firstBad (formOf (typesIn b)) empty (stateOf m b .tree) ≡ none
     pub rising : rises 0 (stateOf m b .calls) ≡ true
     pub entries : Each (λ r. entrySound (formOf (typesIn b)) (nextNumber b) r ≡ true) (entriesIn m b)
@@ -418,7 +423,7 @@ module _ (m : Limits) (b : List ℕ) (small : Small m) (long : length b ≡ reco
 
   pub tree-rows : (map raw (flat (stateOf m b .tree)) ≡ rowsIn m b) × (size (stateOf m b .tree) ≡ length (rowsIn m b)) × Every (legal (typeCount b)) (stateOf m b .tree)
   unfolding stateOf rowsIn
-  tree-rows = shape-whole (typeCount b) (rowsIn m b) (tested .shape) (reads-wide termRow (rowCount b) (drop (rowsAt m) b))
+  tree-rows = shape-whole (typeCount b) (rowsIn m b) (rw (header .edition) at (tested .shape)) (reads-wide termRow (rowCount b) (drop (rowsAt m) b))
 
   -- the entries read are those of the calls
   pub entries-kept : map rawEntry (stateOf m b .calls) ≡ entriesIn m b
@@ -444,7 +449,7 @@ module _ (m : Limits) (b : List ℕ) (small : Small m) (long : length b ≡ reco
         typesSome = omega (arith, header .typesSome, type-total);
         typesMany = omega (arith, header .typesMany, type-total);
         typesWide = reads-fit typeRow (typeCount b) (drop typesAt b) (bytes-drop typesAt b bytes);
-        typesPass = tested .types;
+        typesPass = rw (header .edition) at (tested .types);
         rowsMany = omega (arith, header .rowsMany, row-total);
         legalRows = rw type-total (tree-rows .2);
         typed = typed-if (formOf (typesIn b)) empty (stateOf m b .tree) (tested .term);

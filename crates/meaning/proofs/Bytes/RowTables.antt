@@ -2,17 +2,18 @@
 -- row at which no tree can go on. Assumes nothing.
 use Prim.Native.Nat.{ℕ, zero, suc, _+_, _≤_, _<_}
 use mathlib.Core.Path.{_≡_, refl, ap, sym, _∙_, subst}
-use mathlib.Core.Bool.{Bool, true, false, cond}
+use mathlib.Core.Bool.{Bool, true, false, cond, false≢true}
 use mathlib.Core.List.{List, [], _∷_, _++_, map, append-assoc, append-nil}
 use mathlib.Core.Logic.{_⊎_, inl, inr}
 use mathlib.Core.Option.{Option, none, some}
 use native.Mathlib.Omega.{arith}
 use native.Mathlib.Decide.{ℕ-discrete}
+use lib.Dec.{leb}
 use lib.ListN.{length, take, getD, length-map}
 use lib.Seq.{take-length}
-use borrow.Author.Tests.{lt-ltb, ltb-true}
+use borrow.Author.Tests.{lt-ltb, ltb-true, leb-true}
 use Rattle.meaning.specs.Bytes.{_∧ᵇ_, within}
-use Rattle.meaning.specs.Terms.{str, file, truth, Head, lit, var, lambda, foreign, apply, future, ite, fix, nil, cons, isnil, zip, tuple, project, lproject, bind, arity, Tree, Forest, node, end, more, Row, flat, flats, size, sizes, code, nOf, wordOf, headFrom, Fields, none-used, kindFields, lastKind, kindNo, nNo, typeNo, wordNo, raw, rowOf, fits, rowFault, unless-bad, shapeFrom, shape, kids, trees, top, treeOf}
+use Rattle.meaning.specs.Terms.{str, file, truth, Head, lit, var, lambda, foreign, apply, future, ite, fix, nil, cons, isnil, zip, tuple, project, lproject, bind, arity, Tree, Forest, node, end, more, Row, flat, flats, size, sizes, code, nOf, wordOf, headFrom, Range, Fields, words-from, none-used, kindFields, lastKind, kindNo, nNo, typeNo, wordNo, raw, rowOf, withinOne, fits, rowFault, unless-bad, shapeFrom, shape, kids, trees, top, treeOf}
 use Rattle.meaning.specs.Records.{version}
 use Rattle.meaning.specs.declared.Fault.{Fault}
 use Rattle.meaning.specs.declared.Fault.the-variants.{Behind, Unfinished}
@@ -61,14 +62,40 @@ pub rows-raw : (l : List Row) → map rowOf (map raw l) ≡ l
 rows-raw [] = refl
 rows-raw (r ∷ l) = cc (row-raw r, rows-raw l)
 
+-- a word in one range
+pub one-range : (low high w : ℕ) → withinOne (words-from low high) w ≡ true → (low ≤ w) × (w ≤ high)
+unfolding withinOne
+one-range low high w e = within-if low high w (held (within low high w) e)
+  where
+    held : (b : Bool) → cond b true false ≡ true → b ≡ true
+    held true e = refl
+    held false e = e
+
+pub range-one : (low high w : ℕ) → low ≤ w → w ≤ high → withinOne (words-from low high) w ≡ true
+unfolding withinOne
+range-one low high w a b = rw (within-of low high w a b) refl
+
+-- a word in one of several ranges is no higher than they go
+unfoldable pub upTo : ℕ → List Range → Bool
+upTo top [] = true
+upTo top (r ∷ rs) = leb (r .most) top ∧ᵇ upTo top rs
+
+pub word-up-to : (top : ℕ) (rs : List Range) (w : ℕ) → upTo top rs ≡ true → withinOne rs w ≡ true → w ≤ top
+unfolding upTo withinOne
+word-up-to top [] w h e = absurd (false≢true e)
+word-up-to top (r ∷ rs) w h e = go (within (r .least) (r .most) w) refl (word-up-to top rs w (right _ _ h)) e
+  where
+    go : (b : Bool) → within (r .least) (r .most) w ≡ b → (withinOne rs w ≡ true → w ≤ top) → cond b true (withinOne rs w) ≡ true → w ≤ top
+    go true q k e = omega (arith, within-if _ _ w q .1, leb-true (r .most) top (left _ _ h))
+    go false q k e = k e
+
 -- what a row without fault keeps
 pub record InRange (edition count : ℕ) (r : List ℕ) : Type 0 where
   pub kindLow : 1 ≤ kindNo r
   pub kindHigh : kindNo r ≤ lastKind edition
   pub nFrom : getD kindFields (kindNo r) none-used .nLow ≤ nNo r
   pub nTo : nNo r ≤ getD kindFields (kindNo r) none-used .nHigh
-  pub wordFrom : getD kindFields (kindNo r) none-used .wLow ≤ wordNo r
-  pub wordTo : wordNo r ≤ getD kindFields (kindNo r) none-used .wHigh
+  pub wordIn : withinOne (getD kindFields (kindNo r) none-used .words) (wordNo r) ≡ true
   pub typeBelow : typeNo r < count
 
 -- a test that finds nothing
@@ -84,13 +111,12 @@ in-range edition count r e =
     let (t, e3) = passes _ _ _ e2 in
     let (kl, kh) = within-if 1 (lastKind edition) (kindNo r) k in
     let (nl, nh) = within-if _ _ (nNo r) (left _ _ f) in
-    let (wl, wh) = within-if _ _ (wordNo r) (right _ _ f) in
-    record { kindLow = kl; kindHigh = kh; nFrom = nl; nTo = nh; wordFrom = wl; wordTo = wh; typeBelow = ltb-true (typeNo r) count t }
+    record { kindLow = kl; kindHigh = kh; nFrom = nl; nTo = nh; wordIn = right _ _ f; typeBelow = ltb-true (typeNo r) count t }
 
 pub range-in : (edition count : ℕ) (r : List ℕ) → InRange edition count r → rowFault edition count r ≡ none
 unfolding rowFault fits _∧ᵇ_
 range-in edition count r g =
-    rw (within-of 1 (lastKind edition) (kindNo r) (g .kindLow) (g .kindHigh), within-of _ _ (nNo r) (g .nFrom) (g .nTo), within-of _ _ (wordNo r) (g .wordFrom) (g .wordTo), lt-ltb (typeNo r) count (g .typeBelow)) refl
+    rw (within-of 1 (lastKind edition) (kindNo r) (g .kindLow) (g .kindHigh), within-of _ _ (nNo r) (g .nFrom) (g .nTo), g .wordIn, lt-ltb (typeNo r) count (g .typeBelow)) refl
 
 pub last-kind : (edition : ℕ) → lastKind edition ≤ 19
 unfolding lastKind
@@ -117,8 +143,7 @@ record Same (k n w : ℕ) : Type 0 where
 record Used (f : Fields) (n w : ℕ) : Type 0 where
   nFrom : f .nLow ≤ n
   nTo : n ≤ f .nHigh
-  wordFrom : f .wLow ≤ w
-  wordTo : w ≤ f .wHigh
+  wordIn : withinOne (f .words) w ≡ true
 
 abbrev Back : ℕ → Type 0
 Back k = (n w : ℕ) → 1 ≤ k → Used (getD kindFields k none-used) n w → Same k n w
@@ -128,25 +153,25 @@ unfolding headFrom code nOf wordOf
 back-at =
     start
     ▸ (λ n w h f. absurd (omega arith))
-    ▸ (λ n w h f. record { kind = refl; count = omega arith; word = omega arith })
-    ▸ (λ n w h f. record { kind = refl; count = omega arith; word = omega arith })
-    ▸ (λ n w h f. record { kind = refl; count = omega arith; word = omega arith })
-    ▸ (λ n w h f. record { kind = refl; count = omega arith; word = omega arith })
-    ▸ (λ n w h f. record { kind = refl; count = omega arith; word = omega arith })
-    ▸ (λ n w h f. record { kind = refl; count = omega arith; word = omega arith })
-    ▸ (λ n w h f. record { kind = refl; count = omega arith; word = omega arith })
-    ▸ (λ n w h f. record { kind = refl; count = omega arith; word = omega arith })
-    ▸ (λ n w h f. record { kind = refl; count = omega arith; word = omega arith })
-    ▸ (λ n w h f. record { kind = refl; count = omega arith; word = omega arith })
-    ▸ (λ n w h f. record { kind = refl; count = omega arith; word = omega arith })
-    ▸ (λ n w h f. record { kind = refl; count = omega arith; word = omega arith })
-    ▸ (λ n w h f. record { kind = refl; count = omega arith; word = omega arith })
-    ▸ (λ n w h f. record { kind = refl; count = omega arith; word = omega arith })
-    ▸ (λ n w h f. record { kind = refl; count = omega arith; word = omega arith })
-    ▸ (λ n w h f. record { kind = refl; count = omega arith; word = omega arith })
-    ▸ (λ n w h f. record { kind = refl; count = omega arith; word = omega arith })
-    ▸ (λ n w h f. record { kind = refl; count = omega arith; word = omega arith })
-    ▸ (λ n w h f. record { kind = refl; count = omega arith; word = omega arith })
+    ▸ (λ n w h f. record { kind = refl; count = omega arith; word = refl })
+    ▸ (λ n w h f. record { kind = refl; count = omega arith; word = refl })
+    ▸ (λ n w h f. record { kind = refl; count = omega arith; word = omega (arith, one-range 0 0 w (f .wordIn)) })
+    ▸ (λ n w h f. record { kind = refl; count = omega arith; word = omega (arith, one-range 0 0 w (f .wordIn)) })
+    ▸ (λ n w h f. record { kind = refl; count = omega arith; word = refl })
+    ▸ (λ n w h f. record { kind = refl; count = omega arith; word = omega (arith, one-range 0 0 w (f .wordIn)) })
+    ▸ (λ n w h f. record { kind = refl; count = omega arith; word = refl })
+    ▸ (λ n w h f. record { kind = refl; count = omega arith; word = omega (arith, one-range 0 0 w (f .wordIn)) })
+    ▸ (λ n w h f. record { kind = refl; count = omega arith; word = refl })
+    ▸ (λ n w h f. record { kind = refl; count = omega arith; word = omega (arith, one-range 0 0 w (f .wordIn)) })
+    ▸ (λ n w h f. record { kind = refl; count = omega arith; word = omega (arith, one-range 0 0 w (f .wordIn)) })
+    ▸ (λ n w h f. record { kind = refl; count = omega arith; word = omega (arith, one-range 0 0 w (f .wordIn)) })
+    ▸ (λ n w h f. record { kind = refl; count = omega arith; word = omega (arith, one-range 0 0 w (f .wordIn)) })
+    ▸ (λ n w h f. record { kind = refl; count = omega arith; word = omega (arith, one-range 0 0 w (f .wordIn)) })
+    ▸ (λ n w h f. record { kind = refl; count = omega arith; word = omega (arith, one-range 0 0 w (f .wordIn)) })
+    ▸ (λ n w h f. record { kind = refl; count = omega arith; word = omega (arith, one-range 0 0 w (f .wordIn)) })
+    ▸ (λ n w h f. record { kind = refl; count = omega arith; word = omega (arith, one-range 0 0 w (f .wordIn)) })
+    ▸ (λ n w h f. record { kind = refl; count = omega arith; word = omega (arith, one-range 0 0 w (f .wordIn)) })
+    ▸ (λ n w h f. record { kind = refl; count = omega arith; word = refl })
 
 -- a row without fault is the numbers of the row that it makes
 pub raw-row : (edition count : ℕ) (r : List ℕ) → rowFault edition count r ≡ none → length r ≡ 4 → raw (rowOf r) ≡ r
@@ -158,7 +183,7 @@ raw-row edition count (k ∷ n ∷ t ∷ []) e q = absurd (omega arith)
 raw-row edition count (k ∷ n ∷ t ∷ w ∷ x ∷ l) e q = absurd (omega arith)
 raw-row edition count (k ∷ n ∷ t ∷ w ∷ []) e q =
     let g = in-range edition count (k ∷ n ∷ t ∷ w ∷ []) e in
-    let s = below-at Back 20 back-at k (omega (arith, last-kind edition, g .kindHigh)) n w (g .kindLow) (record { nFrom = g .nFrom; nTo = g .nTo; wordFrom = g .wordFrom; wordTo = g .wordTo }) in
+    let s = below-at Back 20 back-at k (omega (arith, last-kind edition, g .kindHigh)) n w (g .kindLow) (record { nFrom = g .nFrom; nTo = g .nTo; wordIn = g .wordIn }) in
     cc (s .kind, s .count, s .word)
 
 -- Accepted -------------------------------------------------------------------------------------------------------

@@ -11,7 +11,7 @@ use lib.Dec.{eqb, leb, ltb}
 use lib.ListN.{length, take, getD, length-append, List·getD-eq-default}
 use lib.Seq.{append-snoc, length-take-le, getD-take}
 use Rattle.meaning.specs.Bytes.{_∧ᵇ_}
-use Rattle.meaning.specs.Types.{Base, Str, File, Truth, Side, ntv, frn, Param, Form, absent, base, fList, fTuple, fFun, types, names, formNo, partsNo, result, parts, formRow, formOf, every, groundForm, groundBelow, ground, lastForm, distinct, below, nonzero, fieldsOk, fresh, groundCall, typeOk, badTypeFrom, badType, sameNumbers}
+use Rattle.meaning.specs.Types.{Base, Str, File, Truth, Side, ntv, frn, Param, Form, absent, base, fList, fTuple, fFun, types, names, formNo, partsNo, result, parts, formRow, formOf, every, groundForm, groundBelow, ground, lastForm, distinct, below, nonzero, listOk, tupleOk, namesOk, functionOk, fieldsOk, fresh, groundCall, typeOk, badTypeFrom, badType, sameNumbers}
 use Rattle.meaning.specs.Records.{version}
 use Rattle.meaning.proofs.Trees.Tests.{left, right, both, within-if, numbers-same, none-some}
 use Rattle.meaning.proofs.Bytes.RowTables.{passes, Below, start, _▸_, below-at}
@@ -207,11 +207,11 @@ form-beyond rows t h = rw (List·getD-eq-default rows [] h) refl
 
 -- what the fields of row i keep, by its form
 fields-list : (i : ℕ) (r : List ℕ) → formNo r ≡ 4 → fieldsOk i r ≡ true → below i (result r) ≡ true
-unfolding fieldsOk
+unfolding fieldsOk listOk
 fields-list i r e k = right _ _ (rw e at (right _ _ k))
 
 fields-tuple : (i : ℕ) (r : List ℕ) → formNo r ≡ 5 → fieldsOk i r ≡ true → every (below i) (types (parts r)) ≡ true
-unfolding fieldsOk
+unfolding fieldsOk tupleOk
 fields-tuple i r e k = right _ _ (right _ _ (right _ _ (rw e at (right _ _ k))))
 
 record FunFields (i : ℕ) (r : List ℕ) : Type 0 where
@@ -221,14 +221,14 @@ record FunFields (i : ℕ) (r : List ℕ) : Type 0 where
   args : every (below i) (types (parts r)) ≡ true
 
 fields-fun : (i : ℕ) (r : List ℕ) (s : Side) → formNo r ≡ sideNo s → fieldsOk i r ≡ true → FunFields i r
-unfolding fieldsOk sideNo
+unfolding fieldsOk sideNo functionOk namesOk
 fields-fun i r s e k = go s e
   where
-    kept : (leb (partsNo r) 8 ∧ᵇ below i (result r) ∧ᵇ every nonzero (names (parts r)) ∧ᵇ distinct (names (parts r)) ∧ᵇ every (below i) (types (parts r))) ≡ true → FunFields i r
+    kept : functionOk i r ≡ true → FunFields i r
     kept k =
         let a = right _ _ k in
-        let b = right _ _ (right _ _ a) in
-        record { few = leb-true (partsNo r) 8 (left _ _ k); result = left _ _ a; distinct = left _ _ b; args = right _ _ b }
+        let b = right _ _ a in
+        record { few = leb-true (partsNo r) 8 (left _ _ k); result = left _ _ a; distinct = right _ _ (left _ _ b); args = right _ _ b }
 
     go : (s : Side) → formNo r ≡ sideNo s → FunFields i r
     go ntv e = kept (rw e at (right _ _ k))

@@ -9,7 +9,7 @@ use Rattle.meaning.specs.Bytes.{Limits}
 use Rattle.meaning.specs.Types.{formOf, empty}
 use Rattle.meaning.specs.Terms.{Tree, tyOf}
 use Rattle.meaning.specs.Typing.{Typed}
-use Rattle.meaning.specs.Steps.{Call, go, step, value, awaited, Entry}
+use Rattle.meaning.specs.Steps.{Call, go, step, value, Awaited, awaited}
 use Rattle.meaning.specs.Records.{State, recordOf, stateOf, sound, listed}
 use Rattle.meaning.proofs.Bytes.Records.{Small, Good, state-record, sound-record}
 use Rattle.meaning.proofs.Steps.Progress.{Progress, done, moves, waits, progress, awaited-listed}
@@ -18,7 +18,7 @@ use Rattle.meaning.proofs.Steps.Progress.{Progress, done, moves, waits,
 pub data Moment (s : State) : Type 0 where
   a-value : value (s .tree) ≡ true → Moment s
   a-rule : (c : Option Call) (u : Tree) → step (formOf (s .types)) (s .next) (s .tree) ≡ go c u → Moment s
-  a-call : (e : Entry) → awaited (s .tree) ≡ some e → listed (s .calls) (e .number) ≡ some (e .type) → Moment s
+  a-call : (e : Awaited) → awaited (s .tree) ≡ some e → listed (s .calls) (e .number) ≡ some (e .type) → Moment s
 
 good-moment : (m : Limits) (s : State) → Good m s → Moment s
 good-moment m s g = told (progress (formOf (s .types)) (s .next) (s .tree) (g .typed))

@@ -8,8 +8,7 @@ use native.Mathlib.Omega.{arith}
 use borrow.Author.Tests.{ltb-true, lt-ltb, eqb-true, ne-eqb, eq-eqb}
 use lib.Dec.{eqb}
 use lib.ListN.{length, length-append}
-use Rattle.meaning.specs.Steps.{Entry}
-use Rattle.meaning.specs.Records.{rises, listed}
+use Rattle.meaning.specs.Records.{Entry, rises, listed}
 use Rattle.meaning.specs.Entries.{without}
 use Rattle.meaning.proofs.Trees.Tests.{both, left, right, none-some}
 use Rattle.meaning.proofs.Bytes.Layouts.{Each}

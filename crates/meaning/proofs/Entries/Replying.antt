@@ -13,8 +13,8 @@ use Rattle.meaning.specs.Bytes.{width, termRow, replyHead, Limits}
 use Rattle.meaning.specs.Types.{formOf, ground, empty}
 use Rattle.meaning.specs.Terms.{tyOf, Row, flat, size, raw, shape}
 use Rattle.meaning.specs.Typing.{Typed, stop}
-use Rattle.meaning.specs.Steps.{value, settle, Entry}
-use Rattle.meaning.specs.Records.{State, version, firstNot, listed}
+use Rattle.meaning.specs.Steps.{value, settle}
+use Rattle.meaning.specs.Records.{State, Entry, version, firstNot, listed}
 use Rattle.meaning.specs.Entries.{LegalReply, replyNumber, replyCount, replyRows, replyTree, replyKind, replyBad, answerVerdict, replyVerdict}
 use Rattle.meaning.specs.declared.Shape.the-variants.{Whole}
 use Rattle.meaning.specs.declared.Refusal.{Refusal}

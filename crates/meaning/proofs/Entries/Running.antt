@@ -13,17 +13,51 @@ use Rattle.meaning.specs.Types.{formOf}
 use Rattle.meaning.specs.Terms.{Tree, size}
 use Rattle.meaning.specs.Steps.{Call, Out, stay, go, value, step}
 use Rattle.meaning.specs.Records.{State}
-use Rattle.meaning.specs.Entries.{Try, halt, pass, need, stepped, sent, tryOut, try, onStep, nextState}
+use Rattle.meaning.specs.Entries.{sendMeets, Try, halt, pass, need, unmet, stepped, sent, tryOut, try, onStep, nextState}
 use Rattle.meaning.specs.declared.Answer.{Answer}
 use Rattle.meaning.specs.declared.Answer.the-variants.{Value, Waiting, Sent, Held, Budget, Room, Numbers}
+use Rattle.meaning.proofs.Trees.Tests.{none-some}
 
 abbrev pub stepOf : State → Out
 stepOf s = step (formOf (s .types)) (s .next) (s .tree)
 
--- a send finds the list not full and a number left
+-- a send meets no limit
 unfoldable pub MaySend : Limits → State → Option Call → Type 0
 MaySend m s none = Unit {0}
-MaySend m s (some c) = (length (s .calls) < m .calls) × (s .next ≤ m .lastNumber)
+MaySend m s (some c) = sendMeets m s ≡ none
+
+-- what it meets: HELD exactly if the list is full, NUMBERS exactly if it is not and no number is left
+pub data SendMeets (m : Limits) (s : State) : Type 0 where
+  meets-nothing : sendMeets m s ≡ none → length (s .calls) < m .calls → s .next ≤ m .lastNumber → SendMeets m s
+  meets-held : sendMeets m s ≡ some Held → m .calls ≤ length (s .calls) → SendMeets m s
+  meets-numbers : sendMeets m s ≡ some Numbers → length (s .calls) < m .calls → m .lastNumber < s .next → SendMeets m s
+
+pub send-meets : (m : Limits) (s : State) → SendMeets m s
+unfolding sendMeets
+send-meets m s = by-calls (ltb (length (s .calls)) (m .calls)) refl
+  where
+    by-number : ltb (length (s .calls)) (m .calls) ≡ true → (b : Bool) → leb (s .next) (m .lastNumber) ≡ b → SendMeets m s
+    by-number p true q = meets-nothing (rw (p, q) refl) (ltb-true _ _ p) (leb-true _ _ q)
+    by-number p false q = meets-numbers (rw (p, q) refl) (ltb-true _ _ p) (leb-false _ _ q)
+
+    by-calls : (b : Bool) → ltb (length (s .calls)) (m .calls) ≡ b → SendMeets m s
+    by-calls true p = by-number p (leb (s .next) (m .lastNumber)) refl
+    by-calls false p = meets-held (rw p refl) (ltb-false _ _ p)
+
+pub send-allowed : (m : Limits) (s : State) → sendMeets m s ≡ none → (length (s .calls) < m .calls) × (s .next ≤ m .lastNumber)
+send-allowed m s e = elim (send-meets m s) [
+  | meets-nothing q a b ↦ (a, b)
+  | meets-held q a ↦ absurd (none-some Held (sym e ∙ q))
+  | meets-numbers q a b ↦ absurd (none-some Numbers (sym e ∙ q))
+]
+
+pub held-meets : (m : Limits) (s : State) → m .calls ≤ length (s .calls) → sendMeets m s ≡ some Held
+unfolding sendMeets
+held-meets m s h = rw (le-ltb (length (s .calls)) (m .calls) h) refl
+
+pub numbers-meets : (m : Limits) (s : State) → length (s .calls) < m .calls → m .lastNumber < s .next → sendMeets m s ≡ some Numbers
+unfolding sendMeets
+numbers-meets m s a b = rw (lt-ltb (length (s .calls)) (m .calls) a, lt-leb (s .next) (m .lastNumber) b) refl
 
 -- "Before each step, in this order": when each answer is given
 unfoldable pub Stops : Limits → State → Answer → Type 0
@@ -62,23 +96,18 @@ unfolding Truthful need Stops
 room-tells m s c u v e k true q = record { open-term = v; tree = u; steps = e; may = k; room = leb-true _ _ q; state = refl }
 room-tells m s c u v e k false q = (v, (c, u, e, k, leb-false _ _ q))
 
-number-tells : (m : Limits) (s : State) (c : Call) (u : Tree) → value (s .tree) ≡ false → stepOf s ≡ go (some c) u → length (s .calls) < m .calls → (b : Bool) → leb (s .next) (m .lastNumber) ≡ b
-    → Truthful m s (need b Numbers (need (leb (size u) (m .rows)) Room (pass (some c) (behindStep s (some c) u))))
-unfolding Truthful need Stops MaySend
-number-tells m s c u v e k true q = room-tells m s (some c) u v e (k, leb-true _ _ q) (leb (size u) (m .rows)) refl
-number-tells m s c u v e k false q = (v, (c, u, e, k, leb-false _ _ q))
-
-held-tells : (m : Limits) (s : State) (c : Call) (u : Tree) → value (s .tree) ≡ false → stepOf s ≡ go (some c) u → (b : Bool) → ltb (length (s .calls)) (m .calls) ≡ b
-    → Truthful m s (need b Held (need (leb (s .next) (m .lastNumber)) Numbers (need (leb (size u) (m .rows)) Room (pass (some c) (behindStep s (some c) u)))))
-unfolding Truthful need Stops
-held-tells m s c u v e true q = number-tells m s c u v e (ltb-true _ _ q) (leb (s .next) (m .lastNumber)) refl
-held-tells m s c u v e false q = (v, (c, u, e, ltb-false _ _ q))
+send-tells : (m : Limits) (s : State) (c : Call) (u : Tree) → value (s .tree) ≡ false → stepOf s ≡ go (some c) u → SendMeets m s
+    → Truthful m s (unmet (sendMeets m s) (need (leb (size u) (m .rows)) Room (pass (some c) (behindStep s (some c) u))))
+unfolding Truthful unmet Stops MaySend
+send-tells m s c u v e (meets-nothing q a b) = rw q (room-tells m s (some c) u v e q (leb (size u) (m .rows)) refl)
+send-tells m s c u v e (meets-held q a) = rw q (v, (c, u, e, a))
+send-tells m s c u v e (meets-numbers q a b) = rw q (v, (c, u, e, a, b))
 
 out-tells : (m : Limits) (s : State) (o : Out) → value (s .tree) ≡ false → stepOf s ≡ o → Truthful m s (tryOut m s o)
 unfolding Truthful tryOut Stops MaySend behindStep
 out-tells m s stay v e = (v, e)
 out-tells m s (go none u) v e = room-tells m s none u v e tt (leb (size u) (m .rows)) refl
-out-tells m s (go (some c) u) v e = held-tells m s c u v e (ltb (length (s .calls)) (m .calls)) refl
+out-tells m s (go (some c) u) v e = send-tells m s c u v e (send-meets m s)
 
 value-tells : (m : Limits) (s : State) (b : Bool) → value (s .tree) ≡ b → Truthful m s (cond b (halt Value) (tryOut m s (stepOf s)))
 unfolding Truthful Stops
@@ -100,22 +129,21 @@ passes-when m s c u e = rw e at (try-tells m s)
 
 -- and the other way round
 pub stops-of : (m : Limits) (s : State) (a : Answer) → Stops m s a → try m s ≡ halt a
-unfolding Stops MaySend try tryOut need
+unfolding Stops MaySend try tryOut need unmet
 stops-of m s Value v = rw v refl
 stops-of m s Waiting (v, e) = rw (v, e) refl
 stops-of m s (Sent k) z = absurd z
-stops-of m s Held (v, (c, u, e, h)) = rw (v, e, le-ltb (length (s .calls)) (m .calls) h) refl
+stops-of m s Held (v, (c, u, e, h)) = rw (v, e, held-meets m s h) refl
 stops-of m s Budget z = absurd z
 stops-of m s Room (v, (none, u, e, k, h)) = rw (v, e, lt-leb (size u) (m .rows) h) refl
-stops-of m s Room (v, (some c, u, e, (k, n), h)) =
-    rw (v, e, lt-ltb (length (s .calls)) (m .calls) k, le-leb (s .next) (m .lastNumber) n, lt-leb (size u) (m .rows) h) refl
-stops-of m s Numbers (v, (c, u, e, k, h)) = rw (v, e, lt-ltb (length (s .calls)) (m .calls) k, lt-leb (s .next) (m .lastNumber) h) refl
+stops-of m s Room (v, (some c, u, e, k, h)) = rw (v, e, k, lt-leb (size u) (m .rows) h) refl
+stops-of m s Numbers (v, (c, u, e, k, h)) = rw (v, e, numbers-meets m s k h) refl
 
 pub passes-of : (m : Limits) (s : State) (c : Option Call) (u : State) → Passes m s c u → try m s ≡ pass c u
-unfolding MaySend try tryOut need behindStep
+unfolding MaySend try tryOut need unmet behindStep
 passes-of m s none u p = rw (p .open-term, p .steps, le-leb (size (p .tree)) (m .rows) (p .room)) (ap (pass none) (sym (p .state)))
 passes-of m s (some c) u p =
-    rw (p .open-term, p .steps, lt-ltb (length (s .calls)) (m .calls) (p .may .0), le-leb (s .next) (m .lastNumber) (p .may .1), le-leb (size (p .tree)) (m .rows) (p .room))
+    rw (p .open-term, p .steps, p .may, le-leb (size (p .tree)) (m .rows) (p .room))
     (ap (pass (some c)) (sym (p .state)))
 
 -- so where a step is made, none of them holds

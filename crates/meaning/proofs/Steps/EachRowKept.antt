@@ -11,13 +11,13 @@ use lib.ListN.{getD}
 use borrow.Author.Tests.{lt-ltb, ltb-true}
 use Rattle.meaning.specs.Bytes.{_∧ᵇ_, within}
 use Rattle.meaning.specs.Types.{Param, Form, absent, base, fList, fTuple, fFun, params, elemOf, find, low, rest}
-use Rattle.meaning.specs.Terms.{truth, Head, lit, var, lambda, foreign, apply, future, ite, fix, nil, cons, isnil, zip, tuple, project, lproject, bind, arity, code, nOf, wordOf, none-used, kindFields, lastKind, raw, fits, rowFault, Tree, Forest, node, end, more, headOf, tyOf, is, Row, flat}
+use Rattle.meaning.specs.Terms.{truth, Head, lit, var, lambda, foreign, apply, future, ite, fix, nil, cons, isnil, zip, tuple, project, lproject, bind, arity, code, nOf, wordOf, none-used, kindFields, lastKind, raw, withinOne, fits, rowFault, Tree, Forest, node, end, more, headOf, tyOf, is, Row, flat}
 use Rattle.meaning.specs.Typing.{tys, scope}
 use Rattle.meaning.specs.Steps.{Sub, veil, hide, swap, hit, assign, put, puts, due, settle, settles, values, Call, Out, stay, go, nth, child, kid, become, ifStep, isnilStep, projectStep, ready, anyNil, kidsAt, lprojectStep, tie, fixStep, sendStep, zipCons, zipStep, applyStep, letStep, contract, Places, step}
 use Rattle.meaning.specs.Records.{version}
 use Rattle.meaning.specs.declared.Fault.the-variants.{Kind, Field, Number}
 use Rattle.meaning.proofs.Trees.Tests.{within-of, both, none-some}
-use Rattle.meaning.proofs.Bytes.RowTables.{legal}
+use Rattle.meaning.proofs.Bytes.RowTables.{legal, range-one}
 use Rattle.meaning.proofs.Trees.EachRow.{Fact, Every, Everys, AllRows, every-rows, rows-left, rows-right, Due, Listed}
 use Rattle.meaning.proofs.Typing.Putting.{hit-is, due-is}
 use Rattle.meaning.proofs.Steps.FreeOrder.{Follows, FollowsIn, root, inside, this, that, step-free}
@@ -260,16 +260,16 @@ module _ (form : ℕ → Form) (count : ℕ) where
       by-form (fFun s qs r) e = omega arith
 
   truth-legal : (b : Bool) (u : ℕ) → u < count → legal count (lit (truth b)) u
-  unfolding fits raw lastKind within code nOf wordOf _∧ᵇ_
+  unfolding fits withinOne raw lastKind within code nOf wordOf _∧ᵇ_
   truth-legal true u h = legal-of count (lit (truth true)) u refl refl h
   truth-legal false u h = legal-of count (lit (truth false)) u refl refl h
 
   future-legal : (k u : ℕ) → 1 ≤ k → k ≤ 65535 → u < count → legal count (future k) u
   unfolding fits raw lastKind code nOf wordOf
-  future-legal k u a b h = legal-of count (future k) u (within-of 1 19 9 (omega arith) (omega arith)) (both _ _ (within-of 0 0 0 (omega arith) (omega arith)) (within-of 1 65535 k a b)) h
+  future-legal k u a b h = legal-of count (future k) u (within-of 1 19 9 (omega arith) (omega arith)) (both _ _ (within-of 0 0 0 (omega arith) (omega arith)) (range-one 1 65535 k a b)) h
 
   legal-makes : Parts form count → Makes (legal count) form
-  unfolding fits raw lastKind within code nOf wordOf _∧ᵇ_
+  unfolding fits withinOne raw lastKind within code nOf wordOf _∧ᵇ_
   legal-makes ps =
       record {
         truths = λ b u p. truth-legal b u (legal-if count isnil u p .2);

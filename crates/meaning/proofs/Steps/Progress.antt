@@ -9,7 +9,7 @@ use Rattle.meaning.specs.Bytes.{_∧ᵇ_}
 use Rattle.meaning.specs.Types.{Str, File, Truth, Side, ntv, frn, Param, Form, absent, base, fList, fTuple, fFun, params, types, find, member, empty, pick, _⹁_, place, low, rest}
 use Rattle.meaning.specs.Terms.{str, file, truth, Head, lit, var, lambda, foreign, apply, future, ite, fix, nil, cons, isnil, zip, tuple, project, lproject, bind, arity, code, nOf, wordOf, headFrom, Tree, Forest, node, end, more, headOf, tyOf, is}
 use Rattle.meaning.specs.Typing.{list, tys, litBase, firstIs, belowOk, Masked, Zipped, Rule, scope, Typed, TypedF}
-use Rattle.meaning.specs.Steps.{_∨ᵇ_, assign, put, value, values, Call, Out, stay, go, nth, kid, become, ifStep, isnilStep, projectStep, isList, ready, anyNil, lprojectStep, tie, fixStep, sendStep, zipCons, zipStep, applyStep, letStep, contract, Places, nowhere, everywhere, first, unless, behind, unready, applyLooks, looks, Outs, stays, goes, orElse, wrap, tailGoes, headGoes, visit, step, steps, Entry, earlier, awaited, awaitedIn}
+use Rattle.meaning.specs.Steps.{_∨ᵇ_, assign, put, value, values, Call, Out, stay, go, nth, kid, become, ifStep, isnilStep, projectStep, isList, ready, anyNil, lprojectStep, tie, fixStep, sendStep, zipCons, zipStep, applyStep, letStep, contract, Places, nowhere, everywhere, first, unless, behind, unready, applyLooks, looks, Outs, stays, goes, orElse, wrap, tailGoes, headGoes, visit, step, steps, Awaited, earlier, awaited, awaitedIn}
 use Rattle.meaning.proofs.Trees.Tests.{both, left, right, or-l, or-r, none-some}
 use Rattle.meaning.proofs.Trees.EachRow.{Every, Everys, Due, Listed}
 use Rattle.meaning.proofs.Trees.ByKind.{head-is}
@@ -71,7 +71,7 @@ unfoldable movedF : {n : ℕ} → Outs n → Bool
 movedF stays = false
 movedF (goes c f) = true
 
-unfoldable found : Option Entry → Bool
+unfoldable found : Option Awaited → Bool
 found none = false
 found (some e) = true
 
@@ -80,22 +80,22 @@ unfolding moved
 moved-is stay e = absurd (false≢true e)
 moved-is (go c u) e = (c, u, refl)
 
-found-is : (o : Option Entry) → found o ≡ true → (e : Entry) × (o ≡ some e)
+found-is : (o : Option Awaited) → found o ≡ true → (e : Awaited) × (o ≡ some e)
 unfolding found
 found-is none e = absurd (false≢true e)
 found-is (some x) e = (x, refl)
 
-found-or : (a b : Option Entry) → found (earlier a b) ≡ (found a ∨ᵇ found b)
+found-or : (a b : Option Awaited) → found (earlier a b) ≡ (found a ∨ᵇ found b)
 unfolding found earlier _∨ᵇ_
 found-or none b = refl
 found-or (some e) b = refl
 
-found-cond : (b : Bool) (o : Option Entry) → found (cond b o none) ≡ (b ∧ᵇ found o)
+found-cond : (b : Bool) (o : Option Awaited) → found (cond b o none) ≡ (b ∧ᵇ found o)
 unfolding found _∧ᵇ_
 found-cond true o = refl
 found-cond false o = refl
 
-found-first : (b : Bool) (e : Entry) (o : Option Entry) → found (cond b (some e) o) ≡ (b ∨ᵇ found o)
+found-first : (b : Bool) (e : Awaited) (o : Option Awaited) → found (cond b (some e) o) ≡ (b ∨ᵇ found o)
 unfolding found _∨ᵇ_
 found-first true e o = refl
 found-first false e o = refl
@@ -348,7 +348,7 @@ module _ (form : ℕ → Form) where
   pub data Progress (k : ℕ) (t : Tree) : Type 0 where
     done : value t ≡ true → Progress k t
     moves : (c : Option Call) (u : Tree) → step form k t ≡ go c u → Progress k t
-    waits : (e : Entry) → awaited t ≡ some e → Progress k t
+    waits : (e : Awaited) → awaited t ≡ some e → Progress k t
 
   pub progress : (k : ℕ) (t : Tree) → Typed form empty t → Progress k t
   progress k t d = named (goes-on k t d)
@@ -387,13 +387,13 @@ module _ (form : ℕ → Form) where
 
 -- What is awaited is listed ----------------------------------------------------------------------------------------
 
-by-kind : (Φ : ℕ → Option ℕ) (h : Head) (u : ℕ) (o : Option Entry) (e : Entry) → Due Φ h u → (o ≡ some e → Φ (e .number) ≡ some (e .type)) → (b : Bool) → eqb (code h) 9 ≡ b
+by-kind : (Φ : ℕ → Option ℕ) (h : Head) (u : ℕ) (o : Option Awaited) (e : Awaited) → Due Φ h u → (o ≡ some e → Φ (e .number) ≡ some (e .type)) → (b : Bool) → eqb (code h) 9 ≡ b
     → cond b (some (record { number = wordOf h; type = u })) o ≡ some e → Φ (e .number) ≡ some (e .type)
 unfolding headFrom
 by-kind Φ h u o e a k true p q = let d : record { number = wordOf h; type = u } ≡ e = cc in rw (← d) (a (wordOf h) (head-is 9 h p))
 by-kind Φ h u o e a k false p q = k q
 
-first-found : (Φ : ℕ → Option ℕ) (e : Entry) (b : Bool) (o p : Option Entry) → (o ≡ some e → Φ (e .number) ≡ some (e .type)) → (p ≡ some e → Φ (e .number) ≡ some (e .type))
+first-found : (Φ : ℕ → Option ℕ) (e : Awaited) (b : Bool) (o p : Option Awaited) → (o ≡ some e → Φ (e .number) ≡ some (e .type)) → (p ≡ some e → Φ (e .number) ≡ some (e .type))
     → earlier (cond b o none) p ≡ some e → Φ (e .number) ≡ some (e .type)
 unfolding earlier
 first-found Φ e true none p h k q = k q
@@ -403,10 +403,10 @@ first-found Φ e false o p h k q = k q
 mutual
   unfolding awaited Every headFrom
 
-  pub awaited-listed : (Φ : ℕ → Option ℕ) (t : Tree) (e : Entry) → Listed Φ t → awaited t ≡ some e → Φ (e .number) ≡ some (e .type)
+  pub awaited-listed : (Φ : ℕ → Option ℕ) (t : Tree) (e : Awaited) → Listed Φ t → awaited t ≡ some e → Φ (e .number) ≡ some (e .type)
   awaited-listed Φ (node h u f) e (a, d) q = by-kind Φ h u (awaitedIn (looks h f) f) e a (λ p. awaited-in-listed Φ (looks h f) f e d p) (eqb (code h) 9) refl q
 
-  awaited-in-listed : {n : ℕ} (Φ : ℕ → Option ℕ) (a : Places) (f : Forest n) (e : Entry) → Everys (Due Φ) f → awaitedIn a f ≡ some e → Φ (e .number) ≡ some (e .type)
+  awaited-in-listed : {n : ℕ} (Φ : ℕ → Option ℕ) (a : Places) (f : Forest n) (e : Awaited) → Everys (Due Φ) f → awaitedIn a f ≡ some e → Φ (e .number) ≡ some (e .type)
   awaited-in-listed Φ a end e d q = absurd (none-some e q)
   awaited-in-listed Φ a (more t f) e (c, d) q =
       first-found Φ e (a 0) (awaited t) (awaitedIn (λ i. a (suc i)) f) (λ p. awaited-listed Φ t e c p) (λ p. awaited-in-listed Φ (λ i. a (suc i)) f e d p) q

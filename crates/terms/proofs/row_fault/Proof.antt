@@ -45,25 +45,25 @@ row-fault-spec =
     let last-kind = c .before .before .before .before .before .before .before .before .last-kind in
     let fields-of = c .before .before .before .before .before .before .fields-of in
     let row = args .r in
-    sym (w-few (args .edition) (args .count) (row .kind) (row .n) (row .ty) (row .word) (omega arith) (omega (arith, last-kind .ensures)) (omega (arith, ap (λ (x : Fields). x .wLow) (fields-of .ensures), c .if5 .taken))))
+    sym (w-few (args .edition) (args .count) (row .kind) (row .n) (row .ty) (row .word) (omega arith) (omega (arith, last-kind .ensures)) _ _ (sym (ap (λ (x : Fields). x .words) (fields-of .ensures))) (c .if5 .taken)))
     -- returns-6
     (λ c.
     let args = c .before .before .before .before .before .before .before .before .before .before .before .before .args in
     let last-kind = c .before .before .before .before .before .before .before .before .before .before .last-kind in
     let fields-of = c .before .before .before .before .before .before .before .before .fields-of in
     let row = args .r in
-    sym (w-many (args .edition) (args .count) (row .kind) (row .n) (row .ty) (row .word) (omega arith) (omega (arith, last-kind .ensures)) (omega (arith, ap (λ (x : Fields). x .wHigh) (fields-of .ensures), c .if6 .taken))))
+    sym (w-many (args .edition) (args .count) (row .kind) (row .n) (row .ty) (row .word) (omega arith) (omega (arith, last-kind .ensures)) _ _ (sym (ap (λ (x : Fields). x .words) (fields-of .ensures))) (c .if6 .taken)))
     -- returns-7
     (λ c.
     let args = c .before .before .before .before .before .before .before .before .before .before .before .before .before .args in
     let last-kind = c .before .before .before .before .before .before .before .before .before .before .before .last-kind in
     let fields-of = c .before .before .before .before .before .before .before .before .before .fields-of in
     let row = args .r in
-    sym (in-range (args .edition) (args .count) (row .kind) (row .n) (row .ty) (row .word) (omega arith) (omega (arith, last-kind .ensures)) (omega (arith, ap (λ (x : Fields). x .nLow) (fields-of .ensures), c .before .before .before .before .before .before .before .if3 .left)) (omega (arith, ap (λ (x : Fields). x .nHigh) (fields-of .ensures), c .before .before .before .before .before .if4 .left)) (omega (arith, ap (λ (x : Fields). x .wLow) (fields-of .ensures), c .before .before .before .if5 .left)) (omega (arith, ap (λ (x : Fields). x .wHigh) (fields-of .ensures), c .before .if6 .left)) ∙ rw (lt-ltb _ _ (c .if7 .taken))))
+    sym (in-range (args .edition) (args .count) (row .kind) (row .n) (row .ty) (row .word) (omega arith) (omega (arith, last-kind .ensures)) _ _ (sym (ap (λ (x : Fields). x .words) (fields-of .ensures))) (omega (arith, ap (λ (x : Fields). x .nLow) (fields-of .ensures), c .before .before .before .before .before .before .before .if3 .left)) (omega (arith, ap (λ (x : Fields). x .nHigh) (fields-of .ensures), c .before .before .before .before .before .if4 .left)) (c .before .before .before .if5 .left) (c .before .if6 .left) ∙ rw (lt-ltb _ _ (c .if7 .taken))))
     -- returns-8
     (λ c.
     let args = c .before .before .before .before .before .before .before .before .before .before .before .before .before .args in
     let last-kind = c .before .before .before .before .before .before .before .before .before .before .before .last-kind in
     let fields-of = c .before .before .before .before .before .before .before .before .before .fields-of in
     let row = args .r in
-    sym (in-range (args .edition) (args .count) (row .kind) (row .n) (row .ty) (row .word) (omega arith) (omega (arith, last-kind .ensures)) (omega (arith, ap (λ (x : Fields). x .nLow) (fields-of .ensures), c .before .before .before .before .before .before .before .if3 .left)) (omega (arith, ap (λ (x : Fields). x .nHigh) (fields-of .ensures), c .before .before .before .before .before .if4 .left)) (omega (arith, ap (λ (x : Fields). x .wLow) (fields-of .ensures), c .before .before .before .if5 .left)) (omega (arith, ap (λ (x : Fields). x .wHigh) (fields-of .ensures), c .before .if6 .left)) ∙ rw (le-ltb _ _ (c .if7 .left)))))
+    sym (in-range (args .edition) (args .count) (row .kind) (row .n) (row .ty) (row .word) (omega arith) (omega (arith, last-kind .ensures)) _ _ (sym (ap (λ (x : Fields). x .words) (fields-of .ensures))) (omega (arith, ap (λ (x : Fields). x .nLow) (fields-of .ensures), c .before .before .before .before .before .before .before .if3 .left)) (omega (arith, ap (λ (x : Fields). x .nHigh) (fields-of .ensures), c .before .before .before .before .before .if4 .left)) (c .before .before .before .if5 .left) (c .before .if6 .left) ∙ rw (le-ltb _ _ (c .if7 .left)))))

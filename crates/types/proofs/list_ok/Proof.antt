@@ -2,7 +2,7 @@
 use borrow.Author.Tests.{eq-eqb, ne-eqb, lt-ltb, le-ltb}
 use Rattle.meaning.specs.Bytes.{_∧ᵇ_}
 use Rattle.meaning.specs.Types.{below}
-use Rattle.types.specs.Table.{listOk}
+use Rattle.meaning.specs.Types.{listOk}
 use borrow.Author.Needs.{needs}
 use Rattle.types.proofs.list_ok.Statement.{statement}
 use Rattle.types.proofs.list_ok.Tie as tie

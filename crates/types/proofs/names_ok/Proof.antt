@@ -3,7 +3,8 @@ use Prim.Native.Nat.{_-_, _+_, _*_}
 use mathlib.Core.Path.{_≡_, refl, sym, _∙_}
 use native.Mathlib.Omega.{arith}
 use lib.ListN.{drop}
-use Rattle.types.specs.Table.{typeAt, firstNames, namesOk}
+use Rattle.meaning.specs.Types.{namesOk}
+use Rattle.types.specs.Table.{typeAt, firstNames}
 use Rattle.types.proofs.Laws.{row-length, first-names, first-name}
 use Rattle.types.proofs.Checks.{names-zero, names-twice, names-on, names-end}
 use Rattle.types.proofs.names_ok.Statement.{statement}

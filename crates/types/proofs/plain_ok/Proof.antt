@@ -1,7 +1,7 @@
 -- `types::plain_ok` meets its contract: by its two numbers. Assumes nothing.
 use borrow.Author.Tests.{eq-eqb, ne-eqb}
 use Rattle.meaning.specs.Bytes.{_∧ᵇ_}
-use Rattle.types.specs.Table.{plainOk}
+use Rattle.meaning.specs.Types.{plainOk}
 use borrow.Author.Needs.{needs}
 use Rattle.types.proofs.plain_ok.Statement.{statement}
 use Rattle.types.proofs.plain_ok.Tie as tie
