@@ -10,3 +10,4 @@ pub mod Alive
 pub mod Paths
 pub mod Histories
 pub mod Reports
+pub mod Letters

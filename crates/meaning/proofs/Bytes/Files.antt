@@ -242,14 +242,14 @@ module _ (k : ℕ) (c : Call) (fit : LetterFits k c) where
   unfolding Fits pow256
   letter-head s = rw (letter-sheet k c) (sheet-head callHead termRow _ (map raw (c .rows)) s (omega arith, (omega arith, (omega arith, (omega arith, tt)))))
 
+  pub letter-numbers : (s : List ℕ) → reads termRow (length (c .rows)) (drop (width callHead) (letterOf k c ++ s)) ≡ map raw (c .rows)
+  letter-numbers s =
+      ap (λ (n : ℕ). reads termRow n (drop (width callHead) (letterOf k c ++ s))) (sym (length-map (c .rows) raw))
+      ∙ ap (λ (x : List ℕ). reads termRow (length (map raw (c .rows))) (drop (width callHead) (x ++ s))) (letter-sheet k c)
+      ∙ sheet-rows callHead termRow _ (map raw (c .rows)) s (fit .rows)
+
   pub letter-rows : (s : List ℕ) → map rowOf (reads termRow (length (c .rows)) (drop (width callHead) (letterOf k c ++ s))) ≡ c .rows
-  letter-rows s = ap (map rowOf) numbers ∙ rows-raw (c .rows)
-    where
-      numbers : reads termRow (length (c .rows)) (drop (width callHead) (letterOf k c ++ s)) ≡ map raw (c .rows)
-      numbers =
-          ap (λ (n : ℕ). reads termRow n (drop (width callHead) (letterOf k c ++ s))) (sym (length-map (c .rows) raw))
-          ∙ ap (λ (x : List ℕ). reads termRow (length (map raw (c .rows))) (drop (width callHead) (x ++ s))) (letter-sheet k c)
-          ∙ sheet-rows callHead termRow _ (map raw (c .rows)) s (fit .rows)
+  letter-rows s = ap (map rowOf) (letter-numbers s) ∙ rows-raw (c .rows)
 
 -- so no two calls have one letter
 pub letter-one : (k j : ℕ) (c d : Call) (s t : List ℕ) → LetterFits k c → LetterFits j d → letterOf k c ++ s ≡ letterOf j d ++ t → (k ≡ j) × (c ≡ d)

@@ -58,6 +58,10 @@ pub padded-length : (n : ℕ) (s : List ℕ) → length s ≤ n → length (padd
 unfolding padded
 padded-length n s h = rw (length-append, length-replicate) (omega arith)
 
+pub padded-none : (n : ℕ) → padded n [] ≡ replicate n 0
+unfolding padded
+padded-none n = let e : n - 0 ≡ n = omega arith in ap (λ (i : ℕ). replicate i 0) e
+
 pub padded-zeros : (s : List ℕ) → zeros s ≡ true → s ≡ replicate (length s) 0
 unfolding zeros
 padded-zeros [] e = refl

@@ -102,12 +102,11 @@ reply-stays m s answer g e =
 pub record Board (m : Limits) : Type 0 where
   pub small : Small m
   pub numbers : m .lastNumber ≤ 65535
-  pub first-number : 1 ≤ m .lastNumber
   pub programs : m .programRows ≤ m .rows
   pub letters : 16 + 8 * m .rows ≤ m .workBytes
 
 pub arm-board : Board arm
-arm-board = record { small = arm-small; numbers = omega arith; first-number = omega arith; programs = omega arith; letters = omega arith }
+arm-board = record { small = arm-small; numbers = omega arith; programs = omega arith; letters = omega arith }
 
 -- the types that the table's lists are of stand in the table
 parts : (m : Limits) (s : State) → Good m s → Parts (formOf (s .types)) (length (s .types))

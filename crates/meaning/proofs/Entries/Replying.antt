@@ -83,7 +83,7 @@ unfolding stop
 stopped true o e = (refl, e)
 stopped false o e = (cc, cc)
 
-never-accepted : (r : Refusal) → Refused r ≡ Accepted → ⊥
+pub never-accepted : (r : Refusal) → Refused r ≡ Accepted → ⊥
 never-accepted r e = let z : _≡_ {A = ℕ} 0 1 = cc in omega arith
 
 accepted-answers : (m : Limits) (s : State) (answer : List ℕ) (o : Option ℕ) → listed (s .calls) (replyNumber answer) ≡ o → answerVerdict m s answer o ≡ Accepted → Answers m s answer

@@ -1,29 +1,33 @@
 -- What the entries' statements settle: two outcomes that satisfy one are equal; and on bytes, a run leaves the record of the term after
--- exactly the steps that it reports, and a reply is taken exactly for an open call. Assumes nothing.
+-- exactly the steps that it reports, a reply is taken exactly for an open call, and what it leaves. Assumes nothing.
 use Prim.Native.Nat.{ℕ, _≤_}
 use mathlib.Core.Path.{_≡_, refl, ap, sym, _∙_}
 use mathlib.Core.Bool.{Bool, true, false, cond}
 use mathlib.Core.Logic.{_↔_}
-use mathlib.Core.List.{List}
-use mathlib.Core.Option.{some}
+use mathlib.Core.List.{List, []}
+use mathlib.Core.Option.{Option, none, some}
 use native.Mathlib.Omega.{arith}
 use borrow.Author.Tests.{eqb-true}
-use Rattle.meaning.specs.Bytes.{Limits}
-use Rattle.meaning.specs.Records.{State, recordOf, stateOf, sound}
-use Rattle.meaning.specs.Entries.{Ended, runs, afterSteps, lent, ranOut, rejected, run, LegalReply, replyVerdict, repliedOut, reply, LoadSays, RunSays, ReplySays}
+use lib.ListN.{replicate}
+use Rattle.meaning.specs.Bytes.{Limits, padded}
+use Rattle.meaning.specs.Terms.{future, Tree, flat}
+use Rattle.meaning.specs.Records.{State, recordOf, stateOf, sound, listed}
+use Rattle.meaning.specs.Entries.{leaves, Ended, runs, afterSteps, lent, ranOut, rejected, run, LegalReply, replyNumber, replyVerdict, Replied, repliedState, repliedOut, reply, LoadSays, RunSays, ReplySays}
 use Rattle.meaning.specs.declared.Refusal.{Refusal}
 use Rattle.meaning.specs.declared.Refusal.the-variants.{Length, Unsound}
 use Rattle.meaning.specs.declared.Verdict.{Verdict}
-use Rattle.meaning.specs.declared.Verdict.the-variants.{Accepted}
+use Rattle.meaning.specs.declared.Verdict.the-variants.{Accepted, Refused}
 use Rattle.meaning.specs.declared.Answer.{Answer}
 use Rattle.meaning.specs.declared.Run.{Run}
 use Rattle.meaning.specs.declared.Run.the-variants.{Ran, Rejected}
-use Rattle.meaning.proofs.Trees.Tests.{left}
-use Rattle.meaning.proofs.Bytes.Layouts.{AllBytes}
+use Rattle.meaning.proofs.Trees.Tests.{left, none-some}
+use Rattle.meaning.proofs.Trees.EachRow.{Every, Due, Listed, every-rows, rows-every, all-rows-map}
+use Rattle.meaning.proofs.Bytes.Layouts.{AllBytes, padded-none}
 use Rattle.meaning.proofs.Bytes.Records.{Small, Good, good-state, state-record}
 use Rattle.meaning.proofs.Entries.Paths.{reached, Walk, run-walks, path-keeps, each-reached, path-makes, path-within, Ending, path-ends}
-use Rattle.meaning.proofs.Entries.Replying.{Answers, takes}
-use Rattle.meaning.proofs.Entries.GoodStays.{Board, step-stays}
+use Rattle.meaning.proofs.Entries.OpenList.{gone, listed-without}
+use Rattle.meaning.proofs.Entries.Replying.{never-accepted, Answers, takes}
+use Rattle.meaning.proofs.Entries.GoodStays.{Board, step-stays, reply-stays}
 
 -- "Two outcomes that satisfy it are proved equal" ------------------------------------------------------------------
 
@@ -120,3 +124,51 @@ reply-accepts m k kept work answer h l s f =
     let e = reply-verdict m kept work answer l s in
     let t = takes m (stateOf m kept) answer g f in
     ((λ q. t .0 (sym e ∙ q)), (λ a. e ∙ t .1 a))
+
+-- what an accepted reply leaves. "An accepted reply replaces every future of its number by its rows and takes the entry out"; the work buffer holds
+-- "only zeros"
+pub record Settled (m : Limits) (kept answer kept′ work′ : List ℕ) : Type 0 where
+  pub kept-bytes : kept′ ≡ recordOf m (repliedState (stateOf m kept) answer)
+  pub state : stateOf m kept′ ≡ repliedState (stateOf m kept) answer
+  pub work-bytes : work′ ≡ replicate (m .workBytes) 0
+  pub none-left : Every (λ h u. h ≡ future (replyNumber answer) → ⊥) (stateOf m kept′ .tree)
+  pub entry-gone : listed (stateOf m kept′ .calls) (replyNumber answer) ≡ none
+  pub others-stand : (k : ℕ) → (k ≡ replyNumber answer → ⊥) → listed (stateOf m kept′ .calls) k ≡ listed (stateOf m kept .calls) k
+
+-- a number that is not listed stands nowhere
+unlisted : (Φ : ℕ → Option ℕ) (k : ℕ) (t : Tree) → Φ k ≡ none → Listed Φ t → Every (λ h u. h ≡ future k → ⊥) t
+unlisted Φ k t e d = rows-every _ t (all-rows-map (Due Φ) _ (flat t) (λ h u p q. none-some u (sym e ∙ p k q)) (every-rows (Due Φ) t d))
+
+accepted-if : (m : Limits) (s : State) (answer kept work : List ℕ) (v : Verdict) (a b : Bool)
+    → cond a (cond b (repliedOut m s answer kept work v) (repliedOut m s answer kept work (Refused Unsound))) (repliedOut m s answer kept work (Refused Length)) .verdict ≡ Accepted
+    → (a ≡ true) × (b ≡ true) × (v ≡ Accepted) × (cond a (cond b (repliedOut m s answer kept work v) (repliedOut m s answer kept work (Refused Unsound))) (repliedOut m s answer kept work (Refused Length)) ≡ repliedOut m s answer kept work v)
+unfolding repliedOut
+accepted-if m s answer kept work v true true q = (refl, refl, q, refl)
+accepted-if m s answer kept work v true false q = absurd (never-accepted Unsound q)
+accepted-if m s answer kept work v false b q = absurd (never-accepted Length q)
+
+replied-parts : (m : Limits) (s : State) (answer kept work : List ℕ) (v : Verdict) → v ≡ Accepted
+    → (repliedOut m s answer kept work v .record′ ≡ recordOf m (repliedState s answer)) × (repliedOut m s answer kept work v .work′ ≡ padded (m .workBytes) [])
+unfolding repliedOut leaves
+replied-parts m s answer kept work v e = rw e (refl, refl)
+
+pub reply-settles : (m : Limits) → Board m → (kept work answer : List ℕ) → AllBytes kept → reply m kept work answer .verdict ≡ Accepted
+    → Settled m kept answer (reply m kept work answer .record′) (reply m kept work answer .work′)
+unfolding reply lent repliedState
+reply-settles m k kept work answer h q =
+    let s = stateOf m kept in
+    let (l, d, v, e) = accepted-if m s answer kept work (replyVerdict m s answer) (lent m kept work) (sound m kept) q in
+    let (b, w) = replied-parts m s answer kept work (replyVerdict m s answer) v in
+    let g = good-state m kept (k .small) (eqb-true _ _ (left _ _ l)) h d in
+    let f = reply-stays m s answer g v in
+    let r : reply m kept work answer .record′ ≡ recordOf m (repliedState s answer) = ap (λ (o : Replied). o .record′) e ∙ b in
+    let t : stateOf m (reply m kept work answer .record′) ≡ repliedState s answer = ap (stateOf m) r ∙ state-record m (repliedState s answer) (k .small) f in
+    let n = gone (replyNumber answer) (s .calls) 0 (g .callsRise) in
+    record {
+      kept-bytes = r;
+      state = t;
+      work-bytes = ap (λ (o : Replied). o .work′) e ∙ w ∙ padded-none (m .workBytes);
+      none-left = rw t (unlisted (listed (repliedState s answer .calls)) (replyNumber answer) (repliedState s answer .tree) n (f .listed));
+      entry-gone = ap (λ (x : State). listed (x .calls) (replyNumber answer)) t ∙ n;
+      others-stand = λ i z. ap (λ (x : State). listed (x .calls) i) t ∙ listed-without (replyNumber answer) i (s .calls) z;
+    }

@@ -2,17 +2,17 @@
 use Prim.Native.Nat.{ℕ, suc, _+_, _<_}
 use mathlib.Core.Path.{_≡_, refl, ap, sym, _∙_}
 use mathlib.Core.Bool.{Bool, true, false, cond}
-use mathlib.Core.List.{List, [], _∷_, _++_}
+use mathlib.Core.List.{List, [], _∷_, _++_, append-assoc, append-nil}
 use mathlib.Core.Option.{Option, none, some}
 use native.Mathlib.Omega.{arith}
 use lib.ListN.{length, length-append}
-use Rattle.meaning.specs.Types.{frn, Param, Form, fFun, params, find, empty, pick, _⹁_}
+use Rattle.meaning.specs.Types.{frn, Param, Form, fFun, types, params, find, empty, pick, _⹁_}
 use Rattle.meaning.specs.Terms.{Head, lit, var, lambda, foreign, apply, future, ite, fix, nil, cons, isnil, zip, tuple, project, lproject, bind, arity, nOf, wordOf, Tree, Forest, node, end, more, headOf, tyOf, is, Row, flat, flats, size, sizes}
-use Rattle.meaning.specs.Typing.{tys, Rule, scope, Typed, TypedF}
+use Rattle.meaning.specs.Typing.{list, tys, Rule, scope, Typed, TypedF}
 use Rattle.meaning.specs.Steps.{values, Call, Out, stay, go, child, become, ifStep, isnilStep, projectStep, ready, anyNil, lprojectStep, tie, fixStep, sendStep, zipStep, applyStep, letStep, contract, Places, step}
 use Rattle.meaning.proofs.Trees.Parse.{length-flat, length-flats}
 use Rattle.meaning.proofs.Trees.ByKind.{foreign-is}
-use Rattle.meaning.proofs.Steps.Preservation.{foreign-parts}
+use Rattle.meaning.proofs.Steps.Preservation.{bare, foreign-parts}
 use Rattle.meaning.proofs.Steps.FreeOrder.{Follows, FollowsIn, root, inside, this, that, may-bare, step-free}
 use Rattle.meaning.proofs.Steps.RowsStand.{step-changes}
 
@@ -82,39 +82,98 @@ module _ (form : ℕ → Form) where
   unfolding SendingOut
   root-sends k c h u f v e = rw e at (contract-sending k h u f)
 
-  -- The type of a sent call --------------------------------------------------------------------------------------
+  -- Where a call is sent from -----------------------------------------------------------------------------------
 
-  unfoldable SentType : Option Call → Type 0
-  SentType none = Unit {0}
-  SentType (some c) = (ps : List Param) × (t : ℕ) × (form t ≡ fFun frn ps (c .result))
+  -- the application stands among the rows, typed below no name
+  pub record Sender (k : ℕ) (c : Call) (rows : List Row) : Type 0 where
+    pub old : Tree
+    pub new : Tree
+    pub sending : Sending k c old new
+    pub typed : Typed form empty old
+    pub before : List Row
+    pub after : List Row
+    pub stands : rows ≡ before ++ (flat old ++ after)
 
-  sending-type : (k : ℕ) (c : Call) (t u : Tree) → Sending k c t u → Typed form empty t → SentType (some c)
-  unfolding SentType Typed Rule tys scope _⹁_ pick find
-  sending-type k c t u s d =
-      let ((sd, ps, q, l), w, (kc, ka)) = rw (s .was) at d in
-      let (ps′, r, q′) = foreign-parts form (s .function) (s .tool) kc in
-      (ps, tyOf (s .function), cc)
+  unfoldable SentFrom : ℕ → Option Call → List Row → Type 0
+  SentFrom k none rows = Unit {0}
+  SentFrom k (some c) rows = Sender k c rows
 
-  root-type : (k : ℕ) (c : Option Call) (h : Head) (u : ℕ) (f : Forest (arity h)) (v : Tree) → contract form k h u f ≡ go c v → Typed form empty (node h u f) → SentType c
-  unfolding SentType
-  root-type k none h u f v e d = tt
-  root-type k (some c) h u f v e d = sending-type k c (node h u f) v (root-sends k c h u f v e) d
+  from-ahead : (k : ℕ) (c : Option Call) (p rows : List Row) → SentFrom k c rows → SentFrom k c (p ++ rows)
+  unfolding SentFrom
+  from-ahead k none p rows d = tt
+  from-ahead k (some c) p rows d =
+      record {
+        old = d .old;
+        new = d .new;
+        sending = d .sending;
+        typed = d .typed;
+        before = p ++ d .before;
+        after = d .after;
+        stands = ap (λ l. p ++ l) (d .stands) ∙ simp append-assoc;
+      }
+
+  from-then : (k : ℕ) (c : Option Call) (rows q : List Row) → SentFrom k c rows → SentFrom k c (rows ++ q)
+  unfolding SentFrom
+  from-then k none rows q d = tt
+  from-then k (some c) rows q d =
+      record {
+        old = d .old;
+        new = d .new;
+        sending = d .sending;
+        typed = d .typed;
+        before = d .before;
+        after = d .after ++ q;
+        stands = ap (λ l. l ++ q) (d .stands) ∙ simp append-assoc;
+      }
+
+  root-from : (k : ℕ) (c : Option Call) (h : Head) (u : ℕ) (f : Forest (arity h)) (v : Tree) → contract form k h u f ≡ go c v → Typed form empty (node h u f) → SentFrom k c (flat (node h u f))
+  unfolding SentFrom
+  root-from k none h u f v e d = tt
+  root-from k (some c) h u f v e d =
+      record { old = node h u f; new = v; sending = root-sends k c h u f v e; typed = d; before = []; after = []; stands = sym (append-nil (flat (node h u f))) }
 
   mutual
-    unfolding Typed _⹁_ pick find
+    unfolding Typed _⹁_ pick find flat
 
-    follows-type : {k : ℕ} {c : Option Call} {t u : Tree} → Follows form k c t u → Typed form empty t → SentType c
-    follows-type (root {k} {c} {h} {u} {f} {t} e) d = root-type k c h u f t e d
-    follows-type (inside {h} {u} {f} p) (r, b, d) = follows-type-in p (scope form h u (tys f)) (may-bare form h u f (tys f)) d
+    follows-from : {k : ℕ} {c : Option Call} {t u : Tree} → Follows form k c t u → Typed form empty t → SentFrom k c (flat t)
+    follows-from (root {k} {c} {h} {u} {f} {t} e) d = root-from k c h u f t e d
+    follows-from (inside {k} {c} {h} {u} {f} p) (r, b, d) =
+        from-ahead k c (record { head = h; type = u } ∷ []) (flats f) (follows-from-in p (scope form h u (tys f)) (may-bare form h u f (tys f)) d)
 
-    follows-type-in : {n k : ℕ} {c : Option Call} {a : Places} {f g : Forest n} → FollowsIn form n k c a f g → (s : ℕ → List Param) → ((i : ℕ) → a i ≡ true → s i ≡ []) → TypedF form empty s f → SentType c
-    follows-type-in (this e p) s w (q, d) = follows-type p (rw (w 0 e) at q)
-    follows-type-in (that p) s w (q, d) = follows-type-in p (λ i. s (suc i)) (λ i. w (suc i)) d
+    follows-from-in : {n k : ℕ} {c : Option Call} {a : Places} {f g : Forest n} → FollowsIn form n k c a f g → (s : ℕ → List Param) → ((i : ℕ) → a i ≡ true → s i ≡ []) → TypedF form empty s f → SentFrom k c (flats f)
+    follows-from-in (this {k} {c} {t} {f} e p) s w (q, d) = from-then k c (flat t) (flats f) (follows-from p (rw (w 0 e) at q))
+    follows-from-in (that {k} {c} {t} {f} p) s w (q, d) = from-ahead k c (flat t) (flats f) (follows-from-in p (λ i. s (suc i)) (λ i. w (suc i)) d)
+
+  pub sent-from : (k : ℕ) (t : Tree) (c : Call) (u : Tree) → Typed form empty t → step form k t ≡ go (some c) u → Sender k c (flat t)
+  unfolding SentFrom
+  sent-from k t c u d e = follows-from (step-free form k (some c) t u e) d
+
+  -- What is sent: closed values of the tool's argument types -------------------------------------------------------
+
+  pub record Arguments (c : Call) : Type 0 where
+    pub count : ℕ
+    pub args : Forest count
+    pub rows : c .rows ≡ flats args
+    pub params : List Param
+    pub toolType : ℕ
+    pub tool-typed : form toolType ≡ fFun frn params (c .result)
+    pub all-values : values args ≡ true
+    pub closed : TypedF form empty bare args
+    pub of-types : list (tys args) ≡ types params
+
+  pub sending-args : (k : ℕ) (c : Call) (t u : Tree) → Sending k c t u → Typed form empty t → Arguments c
+  unfolding Typed Rule tys scope list _⹁_ pick find
+  sending-args k c t u s d =
+      let ((sd, ps, q, l), w, (kc, ka)) = rw (s .was) at d in
+      let (ps′, r, q′) = foreign-parts form (s .function) (s .tool) kc in
+      record { count = s .count; args = s .args; rows = s .sent; params = ps; toolType = tyOf (s .function); tool-typed = cc; all-values = s .ready; closed = ka; of-types = l }
+
+  pub sent-arguments : (k : ℕ) (t : Tree) (c : Call) (u : Tree) → Typed form empty t → step form k t ≡ go (some c) u → Arguments c
+  sent-arguments k t c u d e = let s = sent-from k t c u d e in sending-args k c (s .old) (s .new) (s .sending) (s .typed)
 
   -- the result type of a sent call is that of some foreign function
   pub sent-type : (k : ℕ) (t : Tree) (c : Call) (u : Tree) → Typed form empty t → step form k t ≡ go (some c) u → (ps : List Param) × (f : ℕ) × (form f ≡ fFun frn ps (c .result))
-  unfolding SentType
-  sent-type k t c u d e = follows-type (step-free form k (some c) t u e) d
+  sent-type k t c u d e = let a = sent-arguments k t c u d e in (a .params, a .toolType, a .tool-typed)
 
   -- The size of a sent call --------------------------------------------------------------------------------------
 

@@ -62,7 +62,7 @@ module _ (form : ℕ → Form) where
     ground-plain (node (lproject i) u f) g v d = absurd (false≢true v)
     ground-plain (node (bind x) u f) g v d = absurd (false≢true v)
 
-    grounds-plain : {n : ℕ} (f : Forest n) → every (ground form) (list (tys f)) ≡ true → values f ≡ true → TypedF form empty bare f → Everys Plain f
+    pub grounds-plain : {n : ℕ} (f : Forest n) → every (ground form) (list (tys f)) ≡ true → values f ≡ true → TypedF form empty bare f → Everys Plain f
     grounds-plain end g v d = tt
     grounds-plain (more t f) g v (c, d) =
         (ground-plain t (left (ground form (tyOf t)) _ g) (left (value t) (values f) v) c, grounds-plain f (right (ground form (tyOf t)) _ g) (right (value t) (values f) v) d)
