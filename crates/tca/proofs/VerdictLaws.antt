@@ -1,17 +1,17 @@
 -- Load's verdict, test by test in document 01's order. Assumes nothing.
-use Prim.Native.Nat.{ℕ, suc, _+_, _*_, _≤_, _<_}
+use Prim.Native.Nat.{ℕ, suc, _+_, _*_, _-_, _/_, _≤_, _<_}
 use mathlib.Core.Path.{_≡_, refl, ap, sym, _∙_}
 use mathlib.Core.Bool.{Bool, true, false}
-use mathlib.Core.List.{List, map}
+use mathlib.Core.List.{List}
 use mathlib.Core.Option.{Option, none, some}
 use native.Mathlib.Omega.{arith}
 use native.Mathlib.Numerals.{add-one}
 use native.Mathlib.Nat.{zero-add, add-zero}
 use borrow.Author.Tests.{eq-eqb, ne-eqb, le-leb, lt-leb}
-use lib.ListN.{length, getD, drop, drop-of-length-le}
-use lib.Seq.{drop-cons}
+use lib.ListN.{length, getD, take, drop, length-drop, drop-of-length-le}
+use lib.Seq.{drop-cons, length-take-le}
 use Rattle.meaning.specs.Bytes.{width, reads, typeRow, termRow, Limits, arm, recordBytes}
-use Rattle.meaning.specs.Terms.{kindNo, rowOf, shape, treeOf}
+use Rattle.meaning.specs.Terms.{kindNo, shape, treeOf}
 use Rattle.meaning.specs.Types.{formOf, empty, badType}
 use Rattle.meaning.specs.Typing.{later, firstBad}
 use Rattle.meaning.specs.Records.{firstNot, recordOf}
@@ -23,6 +23,8 @@ use Rattle.meaning.specs.declared.Refusal.the-variants.{Length, Size, Mark, Ver
 use Rattle.meaning.specs.declared.Verdict.{Verdict}
 use Rattle.meaning.specs.declared.Verdict.the-variants.{Accepted, Refused}
 use Rattle.meaning.proofs.Trees.Tests.{left, right, within-if}
+use Rattle.layout.specs.Rows.{typeTable, rowTable, termRows}
+use Rattle.layout.proofs.Tables.{type-table-cut, row-table-cut}
 use Rattle.tca.specs.Loads.{marked, countsOk}
 
 -- The header's tests ---------------------------------------------------------------------------------------------
@@ -67,54 +69,74 @@ counts-within m s e = (within-if _ _ _ (left _ _ (right _ _ e)) .1, within-if _ 
 
 -- Types, shape, futures, typing ----------------------------------------------------------------------------------
 
--- over the edition, the n types and the k rows that the file has
-module _ (s : List ℕ) (v n k : ℕ) (o : v ≡ fileEdition s) (p : n ≡ fileTypeCount s) (q : k ≡ fileRowCount s) where
-  types-in : reads typeRow n (drop 10 s) ≡ fileTypes s
+-- the parts of a file with n types
+abbrev pub typesPart : List ℕ → ℕ → List ℕ
+typesPart s n = take (10 + 36 * n - 10) (drop 10 s)
+
+abbrev pub rowsPart : List ℕ → ℕ → List ℕ
+rowsPart s n = take (length s - (10 + 36 * n)) (drop (10 + 36 * n) s)
+
+-- where it has the length that its counts need
+module _ (s : List ℕ) (n : ℕ) (p : n ≡ fileTypeCount s) (q : length s ≡ 10 + 36 * fileTypeCount s + 8 * fileRowCount s) where
+  pub types-length : length (typesPart s n) ≡ 36 * n
+  types-length = length-take-le (10 + 36 * n - 10) (drop 10 s) (rw length-drop (omega arith)) ∙ omega arith
+
+  pub rows-length : length (rowsPart s n) ≡ 8 * fileRowCount s
+  rows-length = length-take-le (length s - (10 + 36 * n)) (drop (10 + 36 * n) s) (rw length-drop (omega arith)) ∙ omega arith
+
+  pub same-rows : (v : ℕ) → badType v (reads typeRow n (typesPart s n)) ≡ badType v (typeTable (typesPart s n))
+  same-rows v =
+      let e : n ≡ length (typesPart s n) / 36 = omega (arith, types-length) in
+      ap (λ (x : ℕ). badType v (reads typeRow x (typesPart s n))) e
+
+  types-are : typeTable (typesPart s n) ≡ fileTypes s
   unfolding fileTypes width
-  types-in = rw (← p)
+  types-are = type-table-cut s 10 (fileTypeCount s) (10 + 36 * n - 10) (omega arith) (omega arith)
 
-  rows-in : reads termRow k (drop (10 + 36 * n) s) ≡ fileRows s
+  rows-are : rowTable (rowsPart s n) ≡ fileRows s
   unfolding fileRows width
-  rows-in = rw (← p, ← q)
+  rows-are =
+      let e : 10 + 36 * n ≡ 10 + 36 * fileTypeCount s = omega arith in
+      row-table-cut s (10 + 36 * n) (fileRowCount s) (length s - (10 + 36 * n)) (omega arith) (omega arith)
+      ∙ ap (λ (x : ℕ). reads termRow (fileRowCount s) (drop x s)) e
 
-  types-are : badType v (reads typeRow n (drop 10 s)) ≡ badType (fileEdition s) (fileTypes s)
-  types-are = ap (badType v) types-in ∙ ap (λ (x : ℕ). badType x (fileTypes s)) o
+  -- by the edition that the file states
+  module _ (v : ℕ) (o : v ≡ fileEdition s) where
+    types-told : badType v (typeTable (typesPart s n)) ≡ badType (fileEdition s) (fileTypes s)
+    types-told = ap (badType v) types-are ∙ ap (λ (x : ℕ). badType x (fileTypes s)) o
 
-  pub bad-type-row : (i : ℕ) → some i ≡ badType v (reads typeRow n (drop 10 s)) → Refused (TypeRow i) ≡ programVerdict s
-  unfolding programVerdict refuse
-  bad-type-row i e = rw (← (e ∙ types-are))
+    pub bad-type-row : (i : ℕ) → some i ≡ badType v (typeTable (typesPart s n)) → Refused (TypeRow i) ≡ programVerdict s
+    unfolding programVerdict refuse
+    bad-type-row i e = rw (← (e ∙ types-told))
 
-  module _ (a : none ≡ badType v (reads typeRow n (drop 10 s))) where
-    types-good : badType (fileEdition s) (fileTypes s) ≡ none
-    types-good = sym (a ∙ types-are)
+    module _ (a : none ≡ badType v (typeTable (typesPart s n))) where
+      types-good : badType (fileEdition s) (fileTypes s) ≡ none
+      types-good = sym (a ∙ types-told)
 
-    shape-is : shape v n (reads termRow k (drop (10 + 36 * n) s)) ≡ shape (fileEdition s) (fileTypeCount s) (fileRows s)
-    shape-is = ap (shape v n) rows-in ∙ ap (λ (c : ℕ). shape v c (fileRows s)) p ∙ ap (λ (x : ℕ). shape x (fileTypeCount s) (fileRows s)) o
+      shape-is : shape v n (rowTable (rowsPart s n)) ≡ shape (fileEdition s) (fileTypeCount s) (fileRows s)
+      shape-is = ap (shape v n) rows-are ∙ ap (λ (c : ℕ). shape v c (fileRows s)) p ∙ ap (λ (x : ℕ). shape x (fileTypeCount s) (fileRows s)) o
 
-    pub bad-row : (f : Fault) (i : ℕ) → Bad f i ≡ shape v n (reads termRow k (drop (10 + 36 * n) s)) → Refused (Row f i) ≡ programVerdict s
-    unfolding programVerdict refuse refuseShape
-    bad-row f i e = rw (types-good, ← (e ∙ shape-is))
-
-    module _ (b : Whole ≡ shape v n (reads termRow k (drop (10 + 36 * n) s))) where
-      pub future-row : (i : ℕ) → some i ≡ firstNot noFuture (reads termRow k (drop (10 + 36 * n) s)) → Refused (Future i) ≡ programVerdict s
+      pub bad-row : (f : Fault) (i : ℕ) → Bad f i ≡ shape v n (rowTable (rowsPart s n)) → Refused (Row f i) ≡ programVerdict s
       unfolding programVerdict refuse refuseShape
-      future-row i e = rw (types-good, ← (b ∙ shape-is), ← (e ∙ ap (firstNot noFuture) rows-in))
+      bad-row f i e = rw (types-good, ← (e ∙ shape-is))
 
-      module _ (c : none ≡ firstNot noFuture (reads termRow k (drop (10 + 36 * n) s))) where
-        judged : Option ℕ
-        judged = firstBad (formOf (reads typeRow n (drop 10 s))) empty (treeOf (map rowOf (reads termRow k (drop (10 + 36 * n) s))))
+      module _ (b : Whole ≡ shape v n (rowTable (rowsPart s n))) where
+        pub future-row : (i : ℕ) → some i ≡ firstNot noFuture (rowTable (rowsPart s n)) → Refused (Future i) ≡ programVerdict s
+        unfolding programVerdict refuse refuseShape
+        future-row i e = rw (types-good, ← (b ∙ shape-is), ← (e ∙ ap (firstNot noFuture) rows-are))
 
-        judged-is : judged ≡ firstBad (formOf (fileTypes s)) empty (fileTree s)
-        unfolding judged fileTree
-        judged-is = rw (types-in, rows-in)
+        module _ (c : none ≡ firstNot noFuture (rowTable (rowsPart s n))) where
+          judged-is : firstBad (formOf (typeTable (typesPart s n))) empty (treeOf (termRows (rowsPart s n))) ≡ firstBad (formOf (fileTypes s)) empty (fileTree s)
+          unfolding fileTree
+          judged-is = rw (types-are, rows-are)
 
-        pub ill-typed-row : (i : ℕ) → some i ≡ firstBad (formOf (reads typeRow n (drop 10 s))) empty (treeOf (map rowOf (reads termRow k (drop (10 + 36 * n) s)))) → Refused (Typing i) ≡ programVerdict s
-        unfolding programVerdict refuse refuseShape judged
-        ill-typed-row i e = rw (types-good, ← (b ∙ shape-is), ← (c ∙ ap (firstNot noFuture) rows-in), ← (e ∙ judged-is))
+          pub ill-typed-row : (i : ℕ) → some i ≡ firstBad (formOf (typeTable (typesPart s n))) empty (treeOf (termRows (rowsPart s n))) → Refused (Typing i) ≡ programVerdict s
+          unfolding programVerdict refuse refuseShape
+          ill-typed-row i e = rw (types-good, ← (b ∙ shape-is), ← (c ∙ ap (firstNot noFuture) rows-are), ← (e ∙ judged-is))
 
-        pub all-good : none ≡ firstBad (formOf (reads typeRow n (drop 10 s))) empty (treeOf (map rowOf (reads termRow k (drop (10 + 36 * n) s)))) → Accepted ≡ programVerdict s
-        unfolding programVerdict refuse refuseShape judged
-        all-good e = rw (types-good, ← (b ∙ shape-is), ← (c ∙ ap (firstNot noFuture) rows-in), ← (e ∙ judged-is))
+          pub all-good : none ≡ firstBad (formOf (typeTable (typesPart s n))) empty (treeOf (termRows (rowsPart s n))) → Accepted ≡ programVerdict s
+          unfolding programVerdict refuse refuseShape
+          all-good e = rw (types-good, ← (b ∙ shape-is), ← (c ∙ ap (firstNot noFuture) rows-are), ← (e ∙ judged-is))
 
 -- The first that fails a test ------------------------------------------------------------------------------------
 

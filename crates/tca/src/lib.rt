@@ -10,9 +10,9 @@ mod head;
 
 ghost use mathlib.Core.Path.{_≡_};
 ghost use Prim.Native.Nat.{_+_, _*_, _≤_};
-ghost use lib.ListN.{length, drop};
-ghost use Rattle.layout.specs.Rows.{found, board};
-ghost use Rattle.meaning.specs.Bytes.{reads, termRow, arm};
+ghost use lib.ListN.{length};
+ghost use Rattle.layout.specs.Rows.{found, board, rowTable};
+ghost use Rattle.meaning.specs.Bytes.{arm};
 ghost use Rattle.meaning.specs.Records.{firstNot};
 ghost use Rattle.meaning.specs.Entries.{fileEdition, fileTypeCount, fileRowCount, noFuture, programVerdict, loadVerdict, LoadSays};
 ghost use Rattle.tca.specs.Loads.{Tells};
@@ -43,13 +43,14 @@ fn arm_limits() -> Limits
 }
 
 // Refusal 8: the first future.
-fn first_future(bytes: &[u8], base: usize, rows: usize) -> Found
-    requires { ⌜ (base + 8 * rows ≤ length (now bytes)) × (rows ≤ 4096) ⌝ }
-    ensures { λ r. ⌜ found r ≡ firstNot noFuture (reads termRow rows (drop base (now (bytes .entry)))) ⌝ }
+fn first_future(rows: &[u8]) -> Found
+    requires { ⌜ length (now rows) ≤ 32768 ⌝ }
+    ensures { λ r. ⌜ found r ≡ firstNot noFuture (rowTable (now (rows .entry))) ⌝ }
 {
+    let n = layout::term_rows(rows);
     let mut i = 0;
-    while i < rows {
-        let r = layout::row_in(bytes, base, i);
+    while i < n {
+        let r = layout::row_at(rows, i);
         if r.kind == 9 {
             return Found::At(i as u32);
         }
@@ -58,27 +59,27 @@ fn first_future(bytes: &[u8], base: usize, rows: usize) -> Found
     Found::Nothing
 }
 
-// Refusals 6 to 9 of a file of an edition, whose counts are `types` and `rows`.
-fn program_verdict(file: &[u8], edition: u16, types: u16, rows: u16) -> meaning::Verdict
-    requires { ⌜ (10 + 36 * types + 8 * rows ≤ length (now file)) × (types ≤ 256) × (rows ≤ 2048) × (types ≡ fileTypeCount (now file)) × (rows ≡ fileRowCount (now file)) × (edition ≡ fileEdition (now file)) ⌝ }
+// Refusals 6 to 9 of a file of an edition that has the length its counts need, with `count` types.
+fn program_verdict(file: &[u8], edition: u16, count: u16) -> meaning::Verdict
+    requires { ⌜ (length (now file) ≡ 10 + 36 * fileTypeCount (now file) + 8 * fileRowCount (now file)) × (count ≡ fileTypeCount (now file)) × (edition ≡ fileEdition (now file)) × (count ≤ 256) × (fileRowCount (now file) ≤ 2048) ⌝ }
     ensures { λ v. ⌜ v ≡ programVerdict (now (file .entry)) ⌝ }
 {
-    let count = types as usize;
-    let n = rows as usize;
-    let at = 10 + 36 * count;
-    let bad = types::bad_type(file, 10, count, edition);
+    let at = layout::FILE_HEAD + layout::TYPE_ROW * count as usize;
+    let types = &file[layout::FILE_HEAD..at];
+    let rows = &file[at..];
+    let bad = types::bad_type(types, 0, count as usize, edition);
     if let Found::At(i) = bad {
         return meaning::Verdict::Refused(Refusal::TypeRow(i));
     }
-    let form = terms::check_shape(file, at, n, types, edition);
+    let form = terms::check_shape(rows, count, edition);
     if let Shape::Bad(f, i) = form {
         return meaning::Verdict::Refused(Refusal::Row(f, i));
     }
-    let future = first_future(file, at, n);
+    let future = first_future(rows);
     if let Found::At(i) = future {
         return meaning::Verdict::Refused(Refusal::Future(i));
     }
-    let ill = typing::first_bad(file, 10, count, file, at, n);
+    let ill = typing::first_bad(types, rows);
     if let Found::At(i) = ill {
         return meaning::Verdict::Refused(Refusal::Typing(i));
     }
@@ -93,7 +94,7 @@ fn load_verdict(file: &[u8], room: usize, m: Limits) -> meaning::Verdict
     if room != layout::record_bytes(m) {
         return meaning::Verdict::Refused(Refusal::Length);
     }
-    if file.len() < 10 {
+    if file.len() < layout::FILE_HEAD {
         return meaning::Verdict::Refused(Refusal::Size);
     }
     if head::is_marked(file) {
@@ -104,10 +105,14 @@ fn load_verdict(file: &[u8], room: usize, m: Limits) -> meaning::Verdict
         if head::counts_ok(file, m) {
             let types = head::type_count(file);
             let rows = head::row_count(file);
-            if file.len() != 10 + 36 * types as usize + 8 * rows as usize {
+            if file.len()
+                != layout::FILE_HEAD
+                    + layout::TYPE_ROW * types as usize
+                    + layout::TERM_ROW * rows as usize
+            {
                 return meaning::Verdict::Refused(Refusal::Size);
             }
-            return program_verdict(file, edition, types, rows);
+            return program_verdict(file, edition, types);
         }
         return meaning::Verdict::Refused(Refusal::Count);
     }

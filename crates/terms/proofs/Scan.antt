@@ -1,5 +1,5 @@
 -- One row of a scan by the trees still owed; what a whole table is; where trees end. Assumes nothing.
-use Prim.Native.Nat.{ℕ, zero, suc, _+_, _-_, _*_, _<_, _≤_}
+use Prim.Native.Nat.{ℕ, zero, suc, _+_, _-_, _*_, _/_, _<_, _≤_}
 use mathlib.Core.Path.{_≡_, refl, ap, sym, _∙_, subst}
 use mathlib.Core.List.{List, [], _∷_, map}
 use mathlib.Core.Option.{Option, none, some}
@@ -8,8 +8,9 @@ use native.Mathlib.Numerals.{add-one}
 use native.Mathlib.Decide.{ℕ-discrete}
 use lib.ListN.{length, getD, set, drop, drop-of-length-le, length-map, List·getD-map}
 use lib.Seq.{drop-cons, getD-set-same, getD-set-other}
-use Rattle.layout.proofs.Laws.{rows-length, term-rows-at}
-use Rattle.meaning.specs.Bytes.{read, reads, termRow}
+use Rattle.layout.specs.Rows.{rowTable, termRows}
+use Rattle.layout.proofs.Tables.{row-table-length, row-table-at}
+use Rattle.meaning.specs.Bytes.{read, termRow}
 use Rattle.meaning.specs.Terms.{arity, Tree, node, Row, size, sizes, rowOf, rowFault, shape, shapeFrom, unless-bad, blank, kids, trees, top, treeAt, grove}
 use Rattle.meaning.specs.declared.Fault.{Fault}
 use Rattle.meaning.specs.declared.Fault.the-variants.{Behind, Unfinished}
@@ -63,9 +64,8 @@ module _ (edition count : ℕ) (l : List (List ℕ)) (i owed : ℕ) (h : length 
       go (suc k) n = refl
 
 -- the row that code reads is the table's
-pub in-table : (s : List ℕ) (base n i : ℕ) (r : List ℕ) → i < n → r ≡ read termRow (drop (base + 8 * i) s) → (i < length (reads termRow n (drop base
-    s))) × (getD (reads termRow n (drop base s)) i [] ≡ r)
-in-table s base n i r h e = (omega (arith, rows-length termRow n (drop base s)), term-rows-at n i base s [] h ∙ sym e)
+pub in-table : (s : List ℕ) (i : ℕ) (r : List ℕ) → i < length s / 8 → r ≡ read termRow (drop (8 * i) s) → (i < length (rowTable s)) × (getD (rowTable s) i [] ≡ r)
+in-table s i r h e = (omega (arith, row-table-length s), row-table-at s i [] (omega arith) ∙ sym e)
 
 -- Whole tables ---------------------------------------------------------------------------------------------------
 
@@ -119,10 +119,8 @@ whole-closed edition count t e =
     first (t ∷ ts) = omega arith
 
 -- the same of a table of bytes
-pub bytes-closed : (edition count rows base : ℕ) (s : List ℕ) → shape edition count (reads termRow rows (drop base s)) ≡ Whole → Closed (map rowOf
-    (reads termRow rows (drop base s))) rows
-bytes-closed edition count rows base s e = rw (rows-length termRow rows (drop base s)) at (whole-closed edition count (reads termRow rows (drop base
-    s)) e)
+pub bytes-closed : (edition count : ℕ) (s : List ℕ) → shape edition count (rowTable s) ≡ Whole → Closed (termRows s) (length s / 8)
+bytes-closed edition count s e = rw (row-table-length s) at (whole-closed edition count (rowTable s) e)
 
 -- Ends -----------------------------------------------------------------------------------------------------------
 
@@ -180,34 +178,30 @@ module _ (l : List Row) (rows j : ℕ) (es : List ℕ) (right : EndsFrom l j row
       ]
 
 -- THE LINK at a table of bytes: the tree at row i is the row read there over the trees from the next row on
-module _ (s : List ℕ) (base rows i : ℕ) (r : List ℕ) (h : i < rows) (e : r ≡ read termRow (drop (base + 8 * i) s)) where
-  abbrev terms : List Row
-  terms = map rowOf (reads termRow rows (drop base s))
-
-  pub row-in : (i < length terms) × (getD terms i (rowOf r) ≡ rowOf r)
+module _ (s : List ℕ) (i : ℕ) (r : List ℕ) (h : i < length s / 8) (e : r ≡ read termRow (drop (8 * i) s)) where
+  pub row-in : (i < length (termRows s)) × (getD (termRows s) i (rowOf r) ≡ rowOf r)
   row-in =
-      let g = in-table s base rows i r h e in
-      let t = reads termRow rows (drop base s) in
-      (omega (arith, g .0, length-map t rowOf), List·getD-map rowOf t i r ∙ ap rowOf (term-rows-at rows i base s r h ∙ sym e))
+      let g = in-table s i r h e in
+      (omega (arith, g .0, length-map (rowTable s) rowOf), List·getD-map rowOf (rowTable s) i r ∙ ap rowOf (row-table-at s i r (omega arith) ∙ sym e))
 
-  pub tree-here : treeAt terms i ≡ node (rowOf r .head) (rowOf r .type) (grove terms (i + 1) (arity (rowOf r .head)))
-  tree-here = tree-row terms i (rowOf r) (rowOf r) (row-in .0) (row-in .1)
+  pub tree-here : treeAt (termRows s) i ≡ node (rowOf r .head) (rowOf r .type) (grove (termRows s) (i + 1) (arity (rowOf r .head)))
+  tree-here = tree-row (termRows s) i (rowOf r) (rowOf r) (row-in .0) (row-in .1)
 
-  pub size-here : size (treeAt terms i) ≡ 1 + sizes (grove terms (i + 1) (arity (rowOf r .head)))
+  pub size-here : size (treeAt (termRows s) i) ≡ 1 + sizes (grove (termRows s) (i + 1) (arity (rowOf r .head)))
   unfolding size
   size-here = ap size tree-here ∙ omega arith
 
   -- the children of row i, where the entries behind it are right
-  module _ (closed : Closed terms rows) (es : List ℕ) (j a : ℕ) (right : EndsFrom terms j rows es) (next : j ≡ i + 1) (children : a ≡ arity (rowOf r
+  module _ (closed : Closed (termRows s) (length s / 8)) (es : List ℕ) (j a : ℕ) (right : EndsFrom (termRows s) j (length s / 8) es) (next : j ≡ i + 1) (children : a ≡ arity (rowOf r
       .head)) where
-    here : size (treeAt terms i) ≡ 1 + sizes (grove terms j a)
-    here = size-here ∙ ap (λ (x : ℕ). 1 + sizes (grove terms (i + 1) x)) (sym children) ∙ ap (λ (x : ℕ). 1 + sizes (grove terms x a)) (sym next)
+    here : size (treeAt (termRows s) i) ≡ 1 + sizes (grove (termRows s) j a)
+    here = size-here ∙ ap (λ (x : ℕ). 1 + sizes (grove (termRows s) (i + 1) x)) (sym children) ∙ ap (λ (x : ℕ). 1 + sizes (grove (termRows s) x a)) (sym next)
 
-    pub past-in : rows ≤ length es → HopsIn es j a
-    past-in k = hops-ends terms rows j es right j a k (omega arith) (omega (arith, here, closed .within i h))
+    pub past-in : length s / 8 ≤ length es → HopsIn es j a
+    past-in k = hops-ends (termRows s) (length s / 8) j es right j a k (omega arith) (omega (arith, here, closed .within i h))
 
-    pub past-at : hop es j a ≡ i + size (treeAt terms i)
-    past-at = hop-ends terms rows j es right j a (omega arith) (omega (arith, here, closed .within i h)) ∙ omega (arith, here)
+    pub past-at : hop es j a ≡ i + size (treeAt (termRows s) i)
+    past-at = hop-ends (termRows s) (length s / 8) j es right j a (omega arith) (omega (arith, here, closed .within i h)) ∙ omega (arith, here)
 
 -- one row of a walk by the trees still owed
 module _ (l : List Row) (i owed : ℕ) (z : owed ≡ 0 → ⊥) where

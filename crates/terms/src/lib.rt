@@ -6,11 +6,9 @@ use layout::Row;
 use meaning::Fault;
 use meaning::Shape;
 ghost use mathlib.Core.Path.{_≡_};
-ghost use mathlib.Core.List.{map};
-ghost use Prim.Native.Nat.{_+_, _*_, _≤_};
-ghost use lib.ListN.{length, drop, getD};
-ghost use Rattle.layout.specs.Rows.{numbers};
-ghost use Rattle.meaning.specs.Bytes.{reads, termRow};
+ghost use Prim.Native.Nat.{_+_, _/_, _≤_};
+ghost use lib.ListN.{length, getD};
+ghost use Rattle.layout.specs.Rows.{numbers, rowTable, termRows};
 ghost use Rattle.meaning.specs.Terms.{arity, rowOf, size, treeAt, rowFault, shape, lastKind, any-word, a-number, an-n, none-used, kindFields};
 ghost use Rattle.terms.specs.Tables.{faultOf, fields, hop, HopsIn, Closed, Ends};
 
@@ -149,14 +147,15 @@ pub fn row_fault(r: Row, count: u16, edition: u16) -> Faulty
 }
 
 // Whether the rows are one whole tree, each row in range; else the first fault.
-pub fn check_shape(bytes: &[u8], base: usize, rows: usize, count: u16, edition: u16) -> Shape
-    requires { ⌜ (base + 8 * rows ≤ length (now bytes)) × (rows ≤ 4096) ⌝ }
-    ensures { λ r. ⌜ r ≡ shape edition count (reads termRow rows (drop base (now (bytes .entry)))) ⌝ }
+pub fn check_shape(rows: &[u8], count: u16, edition: u16) -> Shape
+    requires { ⌜ length (now rows) ≤ 32768 ⌝ }
+    ensures { λ r. ⌜ r ≡ shape edition count (rowTable (now (rows .entry))) ⌝ }
 {
+    let all = layout::term_rows(rows);
     let mut owed: usize = 1;
     let mut i: usize = 0;
-    while i < rows {
-        let r = layout::row_in(bytes, base, i);
+    while i < all {
+        let r = layout::row_at(rows, i);
         let f = row_fault(r, count, edition);
         match f {
             Faulty::Faulty(fault) => {
@@ -179,23 +178,17 @@ pub fn check_shape(bytes: &[u8], base: usize, rows: usize, count: u16, edition: 
 }
 
 // The row behind the tree at row `at`, by a running count of the trees still owed.
-pub fn end_of(bytes: &[u8], base: usize, rows: usize, at: usize) -> usize
-    requires { ⌜ (base + 8 * rows ≤ length (now bytes)) × (rows ≤ 4096) × (at + size (treeAt (map rowOf (reads termRow rows (drop base (now bytes)))) at) ≤ rows) ⌝ }
-    ensures { λ r. ⌜ r ≡ at + size (treeAt (map rowOf (reads termRow rows (drop base (now (bytes .entry))))) at) ⌝ }
+pub fn end_of(rows: &[u8], at: usize) -> usize
+    requires { ⌜ (length (now rows) ≤ 32768) × (at + size (treeAt (termRows (now rows)) at) ≤ length (now rows) / 8) ⌝ }
+    ensures { λ r. ⌜ r ≡ at + size (treeAt (termRows (now (rows .entry))) at) ⌝ }
 {
     let mut owed: usize = 1;
     let mut i = at;
     while 0 < owed {
-        owed = owed - 1 + children(layout::row_in(bytes, base, i));
+        owed = owed - 1 + children(layout::row_at(rows, i));
         i += 1;
     }
     i
-}
-
-fn wide(x: u16) -> usize
-    ensures { λ r. ⌜ r ≡ x ⌝ }
-{
-    x as usize
 }
 
 // The row behind n trees from row `at` on, where the array has the row behind each of them.
@@ -206,21 +199,21 @@ pub fn past(ends: &[u16], at: usize, n: usize) -> usize
     let mut e = at;
     let mut k: usize = 0;
     while k < n {
-        e = wide(ends[e]);
+        e = layout::wide(ends[e]);
         k += 1;
     }
     e
 }
 
 // For each row, from the last one back, the row behind its tree.
-pub fn ends(bytes: &[u8], base: usize, rows: usize, ends: &mut [u16])
-    requires { ⌜ (base + 8 * rows ≤ length (now bytes)) × (rows ≤ 4096) × (rows ≤ length (now ends)) × Closed (map rowOf (reads termRow rows (drop base (now bytes)))) rows ⌝ }
-    ensures { λ _. ⌜ Ends (map rowOf (reads termRow rows (drop base (now (bytes .entry))))) rows (now (ends .exit)) ⌝ }
+pub fn ends(rows: &[u8], ends: &mut [u16])
+    requires { ⌜ (length (now rows) ≤ 32768) × (length (now rows) / 8 ≤ length (now ends)) × Closed (termRows (now rows)) (length (now rows) / 8) ⌝ }
+    ensures { λ _. ⌜ Ends (termRows (now (rows .entry))) (length (now (rows .entry)) / 8) (now (ends .exit)) ⌝ }
 {
-    let mut j = rows;
+    let mut j = layout::term_rows(rows);
     while 0 < j {
         let i = j - 1;
-        let a = children(layout::row_in(bytes, base, i));
+        let a = children(layout::row_at(rows, i));
         let e = past(ends, j, a);
         ends[i] = e as u16;
         j = i;

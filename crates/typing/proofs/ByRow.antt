@@ -19,7 +19,8 @@ use Rattle.meaning.specs.Typing.{Tys, ⟨⟩, _▹_, list, tys, scope, ruleOk}
 use Rattle.meaning.proofs.Trees.Parse.{grove-more}
 use Rattle.terms.specs.Tables.{Ends}
 use Rattle.terms.proofs.ByKind.{below, head-other}
-use Rattle.terms.proofs.Scan.{tree-here, size-some, grove-size}
+use Rattle.terms.proofs.Scan.{size-some, grove-size}
+use Rattle.typing.proofs.Cut.{tree-here}
 use Rattle.typing.specs.Forms.{termRows, behind, three}
 use Rattle.typing.specs.Scope.{binds, chain}
 use Rattle.typing.proofs.Faults.{chain-more}

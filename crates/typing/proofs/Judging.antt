@@ -17,7 +17,8 @@ use Rattle.meaning.specs.Typing.{Tys, ⟨⟩, _▹_, list, tys, scope, firstIs,
 use Rattle.meaning.proofs.Trees.Parse.{grove-more}
 use Rattle.terms.specs.Tables.{Closed, Ends}
 use Rattle.terms.proofs.ByKind.{arity-few}
-use Rattle.terms.proofs.Scan.{size-here, size-some, grove-size}
+use Rattle.terms.proofs.Scan.{size-some, grove-size}
+use Rattle.typing.proofs.Cut.{size-here}
 use Rattle.typing.specs.Forms.{says, forms, partTypes, isFunction, termRows, behind, three, FixedKind}
 use Rattle.typing.specs.Scope.{judged, innerOf, Inner}
 use Rattle.typing.proofs.ByRule.{and-true, and-comm, rule-apply, rule-tuple}

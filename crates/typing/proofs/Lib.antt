@@ -1,3 +1,4 @@
+pub mod Cut
 pub mod Faults
 pub mod Reading
 pub mod ByForm

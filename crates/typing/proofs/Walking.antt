@@ -11,7 +11,7 @@ use Rattle.meaning.specs.Types.{Form}
 use Rattle.meaning.specs.Terms.{arity, Row, headFrom, rowOf, treeAt, grove}
 use Rattle.meaning.specs.Typing.{tys}
 use Rattle.terms.specs.Tables.{Closed}
-use Rattle.terms.proofs.Scan.{row-in}
+use Rattle.typing.proofs.Cut.{row-in}
 use Rattle.typing.specs.Forms.{forms, termRows}
 use Rattle.typing.specs.Scope.{around, walk, handOn, innerOf, judged, Low}
 use Rattle.typing.proofs.Faults.{walk-here, walk-on, handed-low}

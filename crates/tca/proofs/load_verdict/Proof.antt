@@ -32,7 +32,7 @@ load-verdict-spec =
     -- returns-4
     (λ c. let a = c .before .before .before .before .before .before .before .before .before .before .before .before .before .args in sym (other-length (board (a .m)) (a .file .now) (a .room) (c .before .before .before .before .before .before .before .before .before .before .if1 .left ∙ c .before .before .before .before .before .before .before .before .before .before .before .record-bytes .ensures) (c .before .before .before .before .before .before .before .before .before .if2 .left) (sym (c .before .before .before .before .before .before .before .before .is-marked .ensures) ∙ c .before .before .before .before .before .before .before .if3 .taken) (sym (c .before .before .before .before .before .before .version .ensures) ∙ c .before .before .before .before .before .if4 .left) (sym (c .before .before .before .before .counts-ok .ensures) ∙ c .before .before .before .if5 .taken) (λ e. c .if6 .taken (omega (arith, e, c .before .before .type-count .ensures, c .before .row-count .ensures)))))
     -- program-verdict-requires
-    (λ c κs. let b = counts-within (board (c .before .before .before .before .before .before .before .before .before .before .before .before .before .args .m)) (c .before .before .before .before .before .before .before .before .before .before .before .before .before .args .file .now) (sym (c .before .before .before .before .counts-ok .ensures) ∙ c .before .before .before .if5 .taken) in (omega arith, omega arith, omega arith, c .before .before .type-count .ensures, c .before .row-count .ensures, c .before .before .before .before .before .before .version .ensures))
+    (λ c κs. let b = counts-within (board (c .before .before .before .before .before .before .before .before .before .before .before .before .before .args .m)) (c .before .before .before .before .before .before .before .before .before .before .before .before .before .args .file .now) (sym (c .before .before .before .before .counts-ok .ensures) ∙ c .before .before .before .if5 .taken) in (omega (arith, c .before .before .type-count .ensures, c .before .row-count .ensures), c .before .before .type-count .ensures, c .before .before .before .before .before .before .version .ensures, omega arith, omega arith))
     -- returns-5
     (λ c. let a = c .before .before .before .before .before .before .before .before .before .before .before .before .before .before .args in c .program-verdict .ensures ∙ sym (header-good (board (a .m)) (a .file .now) (a .room) (c .before .before .before .before .before .before .before .before .before .before .before .if1 .left ∙ c .before .before .before .before .before .before .before .before .before .before .before .before .record-bytes .ensures) (c .before .before .before .before .before .before .before .before .before .before .if2 .left) (sym (c .before .before .before .before .before .before .before .before .before .is-marked .ensures) ∙ c .before .before .before .before .before .before .before .before .if3 .taken) (sym (c .before .before .before .before .before .before .before .version .ensures) ∙ c .before .before .before .before .before .before .if4 .left) (sym (c .before .before .before .before .before .counts-ok .ensures) ∙ c .before .before .before .before .if5 .taken) (omega (arith, c .before .before .before .type-count .ensures, c .before .before .row-count .ensures))))
     -- returns-6

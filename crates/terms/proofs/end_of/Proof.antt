@@ -1,26 +1,21 @@
 -- The loop's invariant: the trees still owed from row i on end where the tree at row `at` ends.
-use Prim.Native.Nat.{ℕ, _+_, _*_, _-_, _≤_}
+use Prim.Native.Nat.{ℕ, _+_, _*_, _-_, _/_, _≤_}
 use mathlib.Core.Path.{_≡_, refl, sym, ap, _∙_}
-use mathlib.Core.List.{List, map}
-use lib.ListN.{drop}
-use Rattle.layout.specs.Rows.{numbers}
-use Rattle.meaning.specs.Bytes.{reads, termRow}
-use Rattle.meaning.specs.Terms.{arity, rowOf, size, sizes, treeAt, grove, Row}
+use lib.ListN.{length}
+use Rattle.layout.specs.Rows.{numbers, termRows}
+use Rattle.meaning.specs.Terms.{arity, rowOf, size, sizes, treeAt, grove}
 use Rattle.terms.proofs.Scan.{grove-size, grove-none, row-in, owed-some, owed-step}
 use borrow.Author.Needs.{needs}
 use native.Mathlib.Omega.{arith}
 use Rattle.terms.proofs.end_of.Statement.{statement}
 use Rattle.terms.proofs.end_of.Tie as tie
 
-abbrev terms : List ℕ → ℕ → ℕ → List Row
-terms s base rows = map rowOf (reads termRow rows (drop base s))
-
 abbrev Inv-loop : tie.InvT-loop
-Inv-loop bytes base rows at owed₀ i₀ owed i =
-    (i + sizes (grove (terms bytes base rows) i owed) ≡ at + size (treeAt (terms bytes base rows) at)) × (owed ≤ 1 + 256 * i)
+Inv-loop rows at owed₀ i₀ owed i =
+    (i + sizes (grove (termRows rows) i owed) ≡ at + size (treeAt (termRows rows) at)) × (owed ≤ 1 + 256 * i)
 
 abbrev μ-loop : tie.MeasureT-loop
-μ-loop bytes base rows at owed₀ i₀ owed i = rows - i
+μ-loop rows at owed₀ i₀ owed i = length rows / 8 - i
 
 pub end-of-spec : {M : Type 1} → statement M
 end-of-spec =
@@ -31,7 +26,7 @@ end-of-spec =
     -- loop-holds
     (λ c.
     let a = c .before .args in
-    let l = terms (a .bytes .now) (a .base) (a .rows) in
+    let l = termRows (a .rows .now) in
     (omega (arith, grove-size l (a .at) 0, grove-none l (a .at + size (treeAt l (a .at)))), omega arith))
     (λ c. omega arith)
     -- row-at-requires
@@ -39,40 +34,40 @@ end-of-spec =
     let a = c .before .before .before .args in
     let p = c .before .before .before .pre in
     let w = c .before .loop in
-    let some = owed-some (terms (a .bytes .now) (a .base) (a .rows)) (w .i) (w .owed) (omega (arith, c .loop-test .taken)) in
-    omega (arith, p .0, p .2, w .inv .0))
+    let some = owed-some (termRows (a .rows .now)) (w .i) (w .owed) (omega (arith, c .loop-test .taken)) in
+    omega (arith, p .1, w .inv .0))
     (λ c κs. search needs)
     -- add-owed
     (λ c.
     let a = c .before .before .before .before .before .args in
     let p = c .before .before .before .before .before .pre in
     let w = c .before .before .before .loop in
-    let some = owed-some (terms (a .bytes .now) (a .base) (a .rows)) (w .i) (w .owed) (omega (arith, c .before .before .loop-test .taken)) in
-    omega (arith, p .1, p .2, w .inv .0, w .inv .1, c .children .ensures .1))
+    let some = owed-some (termRows (a .rows .now)) (w .i) (w .owed) (omega (arith, c .before .before .loop-test .taken)) in
+    omega (arith, p .0, p .1, w .inv .0, w .inv .1, c .children .ensures .1))
     -- add-i
     (λ c.
     let a = c .before .before .before .before .before .args in
     let p = c .before .before .before .before .before .pre in
     let w = c .before .before .before .loop in
-    let some = owed-some (terms (a .bytes .now) (a .base) (a .rows)) (w .i) (w .owed) (omega (arith, c .before .before .loop-test .taken)) in
-    omega (arith, p .1, p .2, w .inv .0))
+    let some = owed-some (termRows (a .rows .now)) (w .i) (w .owed) (omega (arith, c .before .before .loop-test .taken)) in
+    omega (arith, p .0, p .1, w .inv .0))
     -- loop-less
     (λ c.
     let a = c .before .before .before .before .before .args in
     let p = c .before .before .before .before .before .pre in
     let w = c .before .before .before .loop in
-    let some = owed-some (terms (a .bytes .now) (a .base) (a .rows)) (w .i) (w .owed) (omega (arith, c .before .before .loop-test .taken)) in
-    omega (arith, p .2, w .inv .0))
+    let some = owed-some (termRows (a .rows .now)) (w .i) (w .owed) (omega (arith, c .before .before .loop-test .taken)) in
+    omega (arith, p .1, w .inv .0))
     -- loop-again
     (λ c.
     let a = c .before .before .before .before .before .args in
     let p = c .before .before .before .before .before .pre in
     let w = c .before .before .before .loop in
-    let l = terms (a .bytes .now) (a .base) (a .rows) in
+    let l = termRows (a .rows .now) in
     let z : w .owed ≡ 0 → ⊥ = omega (arith, c .before .before .loop-test .taken) in
     let some = owed-some l (w .i) (w .owed) z in
-    let r = c .before .row-in .result in
-    let g = row-in (a .bytes .now) (a .base) (a .rows) (w .i) (numbers r) (omega (arith, p .2, w .inv .0)) (c .before .row-in .ensures) in
+    let r = c .before .row-at .result in
+    let g = row-in (a .rows .now) (w .i) (numbers r) (omega (arith, p .1, w .inv .0)) (c .before .row-at .ensures) in
     let s = owed-step l (w .i) (w .owed) z (rowOf (numbers r)) (g .0) (g .1) in
     let e : w .owed - 1 + c .children .result ≡ w .owed - 1 + arity (rowOf (numbers r) .head) = ap (λ (x : ℕ). w .owed - 1 + x) (c .children .ensures .0) in
     (ap (λ (x : ℕ). w .i + 1 + sizes (grove l (w .i + 1) x)) e ∙ sym s ∙ w .inv .0, omega (arith, w .inv .1, c .children .ensures .1)))
@@ -80,6 +75,6 @@ end-of-spec =
     (λ c.
     let a = c .before .before .before .args in
     let w = c .before .loop in
-    let l = terms (a .bytes .now) (a .base) (a .rows) in
+    let l = termRows (a .rows .now) in
     let z : w .owed ≡ 0 = omega (arith, c .loop-test .left) in
     omega (arith, w .inv .0, ap (λ (x : ℕ). sizes (grove l (w .i) x)) z, grove-none l (w .i))))

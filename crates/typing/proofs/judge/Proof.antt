@@ -5,7 +5,8 @@ use mathlib.Core.List.{List}
 use lib.ListN.{length, getD}
 use Rattle.layout.specs.Rows.{numbers}
 use Rattle.meaning.specs.Terms.{kindNo, arity, rowOf, size, sizes, treeAt, grove}
-use Rattle.terms.proofs.Scan.{grove-size, grove-none, row-in, owed-some, owed-step}
+use Rattle.terms.proofs.Scan.{grove-size, grove-none, owed-some, owed-step}
+use Rattle.typing.proofs.Cut.{row-in}
 use Rattle.typing.specs.Forms.{forms, termRows}
 use Rattle.typing.specs.Scope.{walk, handOn, innerOf, Low}
 use Rattle.typing.proofs.Faults.{walk-none}

@@ -4,7 +4,8 @@ use mathlib.Core.Path.{_≡_, refl, sym, ap, _∙_}
 use mathlib.Core.List.{List}
 use lib.ListN.{length, getD, length-set}
 use Rattle.meaning.specs.Terms.{kindNo, arity, rowOf, size, sizes, treeAt, grove}
-use Rattle.terms.proofs.Scan.{size-some, grove-size, size-here}
+use Rattle.terms.proofs.Scan.{size-some, grove-size}
+use Rattle.typing.proofs.Cut.{size-here}
 use Rattle.layout.specs.Rows.{numbers}
 use Rattle.typing.specs.Forms.{termRows}
 use Rattle.typing.specs.Scope.{handOn, innerOf}
