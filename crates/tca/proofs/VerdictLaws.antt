@@ -1,5 +1,5 @@
 -- Load's verdict, test by test in document 01's order. Assumes nothing.
-use Prim.Native.Nat.{ℕ, suc, _+_, _*_, _-_, _/_, _≤_, _<_}
+use Prim.Native.Nat.{ℕ, suc, _+_, _*_, _-_, _≤_, _<_}
 use mathlib.Core.Path.{_≡_, refl, ap, sym, _∙_}
 use mathlib.Core.Bool.{Bool, true, false}
 use mathlib.Core.List.{List}
@@ -10,7 +10,7 @@ use native.Mathlib.Nat.{zero-add, add-zero}
 use borrow.Author.Tests.{eq-eqb, ne-eqb, le-leb, lt-leb}
 use lib.ListN.{length, getD, take, drop, length-drop, drop-of-length-le}
 use lib.Seq.{drop-cons, length-take-le}
-use Rattle.meaning.specs.Bytes.{width, reads, typeRow, termRow, Limits, arm, recordBytes}
+use Rattle.meaning.specs.Bytes.{width, reads, termRow, Limits, arm, recordBytes}
 use Rattle.meaning.specs.Terms.{kindNo, shape, treeOf}
 use Rattle.meaning.specs.Types.{formOf, empty, badType}
 use Rattle.meaning.specs.Typing.{later, firstBad}
@@ -83,11 +83,6 @@ module _ (s : List ℕ) (n : ℕ) (p : n ≡ fileTypeCount s) (q : length s ≡ 
 
   pub rows-length : length (rowsPart s n) ≡ 8 * fileRowCount s
   rows-length = length-take-le (length s - (10 + 36 * n)) (drop (10 + 36 * n) s) (rw length-drop (omega arith)) ∙ omega arith
-
-  pub same-rows : (v : ℕ) → badType v (reads typeRow n (typesPart s n)) ≡ badType v (typeTable (typesPart s n))
-  same-rows v =
-      let e : n ≡ length (typesPart s n) / 36 = omega (arith, types-length) in
-      ap (λ (x : ℕ). badType v (reads typeRow x (typesPart s n))) e
 
   types-are : typeTable (typesPart s n) ≡ fileTypes s
   unfolding fileTypes width

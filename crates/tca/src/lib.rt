@@ -67,7 +67,7 @@ fn program_verdict(file: &[u8], edition: u16, count: u16) -> meaning::Verdict
     let at = layout::FILE_HEAD + layout::TYPE_ROW * count as usize;
     let types = &file[layout::FILE_HEAD..at];
     let rows = &file[at..];
-    let bad = types::bad_type(types, 0, count as usize, edition);
+    let bad = types::bad_type(types, edition);
     if let Found::At(i) = bad {
         return meaning::Verdict::Refused(Refusal::TypeRow(i));
     }

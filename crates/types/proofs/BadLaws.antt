@@ -1,5 +1,5 @@
 -- The first bad row: each test of a row, and a turn of the loop over the table. Assumes nothing.
-use Prim.Native.Nat.{ℕ, zero, suc, _+_, _*_, _<_, _≤_}
+use Prim.Native.Nat.{ℕ, zero, suc, _+_, _*_, _/_, _<_, _≤_}
 use mathlib.Core.Path.{_≡_, refl, ap, sym, _∙_}
 use mathlib.Core.Logic.{inl}
 use mathlib.Core.Bool.{Bool, true, false}
@@ -16,15 +16,16 @@ use Rattle.meaning.specs.Bytes.{_∧ᵇ_, within, zeros, Layout, width, reads}
 use Rattle.meaning.specs.Types.{Form, formNo, partsNo, result, parts, types, names, formOf, every, below, groundForm, ground, lastForm, namesOk, functionOk, fieldsOk, fresh, groundCall, typeOk, badTypeFrom, badType}
 use Rattle.meaning.proofs.Trees.Tests.{left, right}
 use Rattle.meaning.proofs.Bytes.TypeTables.{ground-below}
-use Rattle.types.specs.Table.{table, partsGround, Truthful}
+use Rattle.layout.specs.Rows.{typeTable}
+use Rattle.types.specs.Table.{rowsBefore, partsGround, Truthful}
 use Rattle.types.proofs.Laws.{form-row, form-absent}
 use Rattle.types.proofs.Checks.{fields-function}
 use Rattle.types.proofs.GroundLaws.{ground-parts, partGround}
 
 -- a number beyond the table is not ground
-pub ground-beyond : (s : List ℕ) (start count t : ℕ) → count ≤ t → ground (formOf (table s start count)) t ≡ false
+pub ground-beyond : (s : List ℕ) (t : ℕ) → length s / 36 ≤ t → ground (formOf (typeTable s)) t ≡ false
 unfolding groundForm
-ground-beyond s start count t h = ground-parts _ t ∙ ap (groundForm (partGround (formOf (table s start count)) t)) (form-absent s start count t h)
+ground-beyond s t h = ground-parts _ t ∙ ap (groundForm (partGround (formOf (typeTable s)) t)) (form-absent s t h)
 
 -- Foreign functions ----------------------------------------------------------------------------------------------
 
@@ -64,18 +65,18 @@ call-below i r e h =
     let p = every-last (leb (partsNo r) 8) (below i (result r)) (namesOk (names (parts r))) (every (below i) (types (parts r))) z in
     (ltb-true (result r) i (p .0), p .1)
 
-forms-agree : (s : List ℕ) (start count i p : ℕ) → i ≤ count → p < i → formOf (table s start i) p ≡ formOf (table s start count) p
-forms-agree s start count i p h k = form-row s start i p k ∙ sym (form-row s start count p (omega arith))
+forms-agree : (s : List ℕ) (i p : ℕ) → 36 * i ≤ length s → p < i → formOf (rowsBefore s i) p ≡ formOf (typeTable s) p
+forms-agree s i p h k = form-row s i p k ∙ sym (form-row s (length s / 36) p (omega arith))
 
 call-same : (f g : ℕ → Form) (i : ℕ) (r : List ℕ) → formNo r ≡ 7 → (result r < i) × (every (below i) (types (parts r)) ≡ true) → ((t : ℕ) → t < i → ground f t ≡ ground g t) → groundCall f r ≡ groundCall g r
 unfolding groundCall
 call-same f g i r q b a = rw (q, a (result r) (b .0), every-agree (ground f) (ground g) i (types (parts r)) (b .1) a)
 
-pub call-agree : (s : List ℕ) (start count i : ℕ) (r : List ℕ) → i ≤ count → fieldsOk i r ≡ true → groundCall (formOf (table s start i)) r ≡ groundCall (formOf (table s start count)) r
-call-agree s start count i r h f =
+pub call-agree : (s : List ℕ) (i : ℕ) (r : List ℕ) → 36 * i ≤ length s → fieldsOk i r ≡ true → groundCall (formOf (rowsBefore s i)) r ≡ groundCall (formOf (typeTable s)) r
+call-agree s i r h f =
     elim (ℕ-discrete (formNo r) 7) [
       | no n ↦ call-other _ r (formNo r) refl n ∙ sym (call-other _ r (formNo r) refl n)
-      | yes q ↦ call-same _ _ i r q (call-below i r q f) (λ t l. ground-below _ _ t (λ p k. forms-agree s start count i p h (omega arith)))
+      | yes q ↦ call-same _ _ i r q (call-below i r q f) (λ t l. ground-below _ _ t (λ p k. forms-agree s i p h (omega arith)))
     ]
 
 -- A row --------------------------------------------------------------------------------------------------------

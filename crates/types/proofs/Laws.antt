@@ -1,15 +1,17 @@
 -- What the numbers of a type row say: the form of a type, and the list of its parts. Assumes nothing.
-use Prim.Native.Nat.{ℕ, zero, suc, _+_, _*_, _<_, _≤_, min}
+use Prim.Native.Nat.{ℕ, zero, suc, _+_, _*_, _/_, _<_, _≤_, min}
 use mathlib.Core.Path.{_≡_, refl, ap, _∙_}
 use mathlib.Core.List.{List, [], _∷_}
 use native.Mathlib.Omega.{arith}
 use borrow.Author.Tests.{ne-eqb}
 use lib.ListN.{length, take, drop, getD, length-take, length-drop, List·getD-eq-default}
 use lib.Seq.{getD-take, getD-drop}
-use Rattle.meaning.specs.Bytes.{read, typeRow}
+use Rattle.meaning.specs.Bytes.{width, read, reads, typeRow}
 use Rattle.meaning.specs.Types.{Str, File, Truth, ntv, frn, Param, absent, base, fList, fTuple, fFun, types, names, pairs, formNo, partsNo, result, parts, formRow, formOf}
-use Rattle.layout.proofs.Laws.{rows-length, type-rows-at}
-use Rattle.types.specs.Table.{typeAt, table, firstNames, firstTypes}
+use Rattle.meaning.proofs.Bytes.Layouts.{reads-at}
+use Rattle.layout.specs.Rows.{typeTable}
+use Rattle.layout.proofs.Tables.{type-table-length}
+use Rattle.types.specs.Table.{typeAt, firstNames, firstTypes}
 
 pub row-length : (s : List ℕ) → length (read typeRow s) ≡ 19
 unfolding read
@@ -17,14 +19,18 @@ row-length s = refl
 
 -- Forms ----------------------------------------------------------------------------------------------------------
 
--- a number of the table has the form of its row; a number beyond has none
-pub form-row : (s : List ℕ) (start count t : ℕ) → t < count → formOf (table s start count) t ≡ formRow (typeAt s start t)
-unfolding formOf
-form-row s start count t h = ap formRow (type-rows-at count t start s [] h)
+pub row-at : (s : List ℕ) (count t : ℕ) → t < count → getD (reads typeRow count s) t [] ≡ typeAt s t
+unfolding width
+row-at s count t h = reads-at typeRow count t s [] h
 
-pub form-absent : (s : List ℕ) (start count t : ℕ) → count ≤ t → formOf (table s start count) t ≡ absent
+-- a number of the table has the form of its row; a number beyond has none
+pub form-row : (s : List ℕ) (count t : ℕ) → t < count → formOf (reads typeRow count s) t ≡ formRow (typeAt s t)
+unfolding formOf
+form-row s count t h = ap formRow (row-at s count t h)
+
+pub form-absent : (s : List ℕ) (t : ℕ) → length s / 36 ≤ t → formOf (typeTable s) t ≡ absent
 unfolding formOf formRow
-form-absent s start count t h = rw (List·getD-eq-default (table s start count) [] {n = t} (omega (arith, rows-length typeRow count (drop start s)))) refl
+form-absent s t h = rw (List·getD-eq-default (typeTable s) [] {n = t} (omega (arith, type-table-length s))) refl
 
 -- which form a number makes: f is the row's first number
 module _ (r : List ℕ) (f : ℕ) (e : f ≡ formNo r) where

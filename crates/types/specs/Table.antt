@@ -1,5 +1,5 @@
 -- Rows of a type table in bytes, and what a memo of ground types may say. Assumes nothing.
-use Prim.Native.Nat.{ℕ, _+_, _*_}
+use Prim.Native.Nat.{ℕ, _*_}
 use mathlib.Core.Path.{_≡_}
 use mathlib.Core.Logic.{_⊎_}
 use mathlib.Core.Bool.{Bool, true, false}
@@ -8,12 +8,12 @@ use lib.ListN.{take, drop, getD}
 use Rattle.meaning.specs.Bytes.{read, reads, typeRow}
 use Rattle.meaning.specs.Types.{Form, types, names, pairs, parts, every, ground}
 
--- row t of the type rows that begin at base, and the first `count` of them
-abbrev pub typeAt : List ℕ → ℕ → ℕ → List ℕ
-typeAt s base t = read typeRow (drop (base + 36 * t) s)
+-- row t of a type table, and the rows before it
+abbrev pub typeAt : List ℕ → ℕ → List ℕ
+typeAt s t = read typeRow (drop (36 * t) s)
 
-abbrev pub table : List ℕ → ℕ → ℕ → List (List ℕ)
-table s base count = reads typeRow count (drop base s)
+abbrev pub rowsBefore : List ℕ → ℕ → List (List ℕ)
+rowsBefore s t = reads typeRow t s
 
 -- names and types of the first n pairs of a row
 abbrev pub firstNames : ℕ → List ℕ → List ℕ

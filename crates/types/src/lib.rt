@@ -3,17 +3,17 @@ use layout::Found;
 ghost use mathlib.Core.Path.{_≡_};
 ghost use Prim.Native.Nat.{_+_, _*_, _≤_, _<_};
 ghost use lib.ListN.{length, drop, set};
-ghost use Rattle.meaning.specs.Bytes.{zeros, reads, typeRow};
+ghost use Rattle.meaning.specs.Bytes.{zeros};
 ghost use Rattle.meaning.specs.Types.{parts, every, below, member, sameNumbers, formOf, ground, lastForm, plainOk, listOk, tupleOk, namesOk, functionOk, fieldsOk, fresh, groundCall, typeOk, badType};
-ghost use Rattle.layout.specs.Rows.{found};
-ghost use Rattle.types.specs.Table.{typeAt, table, firstNames, firstTypes, partsGround, mark, Truthful, Told};
+ghost use Rattle.layout.specs.Rows.{found, typeTable};
+ghost use Rattle.types.specs.Table.{typeAt, rowsBefore, firstNames, firstTypes, partsGround, mark, Truthful, Told};
 
 // How many parts row t has: at most eight are there.
-pub fn part_count(types: &[u8], base: usize, t: usize) -> usize
-    requires { ⌜ base + 36 * t + 36 ≤ length (now types) ⌝ }
-    ensures { λ n. ⌜ n ≡ length (parts (typeAt (now (types .entry)) base t)) ⌝ }
+pub fn part_count(types: &[u8], t: usize) -> usize
+    requires { ⌜ 36 * t + 36 ≤ length (now types) ⌝ }
+    ensures { λ n. ⌜ n ≡ length (parts (typeAt (now (types .entry)) t)) ⌝ }
 {
-    let n = layout::parts_in(types, base, t) as usize;
+    let n = layout::parts_no(types, t) as usize;
     if 8 < n {
         return 8;
     }
@@ -30,16 +30,16 @@ fn last_form(edition: u16) -> u8
 }
 
 // Behind the first n pairs of row t all is zero.
-fn rest_zero(types: &[u8], base: usize, t: usize, n: usize) -> bool
-    requires { ⌜ base + 36 * t + 36 ≤ length (now types) ⌝ }
-    ensures { λ b. ⌜ b ≡ zeros (drop (3 + 2 * n) (typeAt (now (types .entry)) base t)) ⌝ }
+fn rest_zero(types: &[u8], t: usize, n: usize) -> bool
+    requires { ⌜ 36 * t + 36 ≤ length (now types) ⌝ }
+    ensures { λ b. ⌜ b ≡ zeros (drop (3 + 2 * n) (typeAt (now (types .entry)) t)) ⌝ }
 {
     let mut k = n;
     while k < 8 {
-        if layout::name_in(types, base, t, k) != 0 {
+        if layout::name_no(types, t, k) != 0 {
             return false;
         }
-        if layout::type_in(types, base, t, k) != 0 {
+        if layout::type_no(types, t, k) != 0 {
             return false;
         }
         k += 1;
@@ -48,13 +48,13 @@ fn rest_zero(types: &[u8], base: usize, t: usize, n: usize) -> bool
 }
 
 // The first n names of row t are zero.
-fn names_zero(types: &[u8], base: usize, t: usize, n: usize) -> bool
-    requires { ⌜ (base + 36 * t + 36 ≤ length (now types)) × (n ≤ 8) ⌝ }
-    ensures { λ b. ⌜ b ≡ zeros (firstNames n (typeAt (now (types .entry)) base t)) ⌝ }
+fn names_zero(types: &[u8], t: usize, n: usize) -> bool
+    requires { ⌜ (36 * t + 36 ≤ length (now types)) × (n ≤ 8) ⌝ }
+    ensures { λ b. ⌜ b ≡ zeros (firstNames n (typeAt (now (types .entry)) t)) ⌝ }
 {
     let mut k = 0;
     while k < n {
-        if layout::name_in(types, base, t, k) != 0 {
+        if layout::name_no(types, t, k) != 0 {
             return false;
         }
         k += 1;
@@ -63,13 +63,13 @@ fn names_zero(types: &[u8], base: usize, t: usize, n: usize) -> bool
 }
 
 // The first n types of row t have smaller numbers than t.
-fn parts_below(types: &[u8], base: usize, t: usize, n: usize) -> bool
-    requires { ⌜ (base + 36 * t + 36 ≤ length (now types)) × (n ≤ 8) ⌝ }
-    ensures { λ b. ⌜ b ≡ every (below t) (firstTypes n (typeAt (now (types .entry)) base t)) ⌝ }
+fn parts_below(types: &[u8], t: usize, n: usize) -> bool
+    requires { ⌜ (36 * t + 36 ≤ length (now types)) × (n ≤ 8) ⌝ }
+    ensures { λ b. ⌜ b ≡ every (below t) (firstTypes n (typeAt (now (types .entry)) t)) ⌝ }
 {
     let mut k = 0;
     while k < n {
-        if t <= layout::type_in(types, base, t, k) as usize {
+        if t <= layout::type_no(types, t, k) as usize {
             return false;
         }
         k += 1;
@@ -78,13 +78,13 @@ fn parts_below(types: &[u8], base: usize, t: usize, n: usize) -> bool
 }
 
 // The name x stands among the first n of row t, from the k-th on.
-fn name_from(types: &[u8], base: usize, t: usize, n: usize, k: usize, x: u16) -> bool
-    requires { ⌜ (base + 36 * t + 36 ≤ length (now types)) × (n ≤ 8) × (k ≤ n) ⌝ }
-    ensures { λ b. ⌜ b ≡ member x (drop k (firstNames n (typeAt (now (types .entry)) base t))) ⌝ }
+fn name_from(types: &[u8], t: usize, n: usize, k: usize, x: u16) -> bool
+    requires { ⌜ (36 * t + 36 ≤ length (now types)) × (n ≤ 8) × (k ≤ n) ⌝ }
+    ensures { λ b. ⌜ b ≡ member x (drop k (firstNames n (typeAt (now (types .entry)) t))) ⌝ }
 {
     let mut j = k;
     while j < n {
-        if layout::name_in(types, base, t, j) == x {
+        if layout::name_no(types, t, j) == x {
             return true;
         }
         j += 1;
@@ -93,17 +93,17 @@ fn name_from(types: &[u8], base: usize, t: usize, n: usize, k: usize, x: u16) ->
 }
 
 // The first n names of row t are nonzero and distinct.
-fn names_ok(types: &[u8], base: usize, t: usize, n: usize) -> bool
-    requires { ⌜ (base + 36 * t + 36 ≤ length (now types)) × (n ≤ 8) ⌝ }
-    ensures { λ b. ⌜ b ≡ namesOk (firstNames n (typeAt (now (types .entry)) base t)) ⌝ }
+fn names_ok(types: &[u8], t: usize, n: usize) -> bool
+    requires { ⌜ (36 * t + 36 ≤ length (now types)) × (n ≤ 8) ⌝ }
+    ensures { λ b. ⌜ b ≡ namesOk (firstNames n (typeAt (now (types .entry)) t)) ⌝ }
 {
     let mut k = 0;
     while k < n {
-        let x = layout::name_in(types, base, t, k);
+        let x = layout::name_no(types, t, k);
         if x == 0 {
             return false;
         }
-        if name_from(types, base, t, n, k + 1, x) {
+        if name_from(types, t, n, k + 1, x) {
             return false;
         }
         k += 1;
@@ -112,90 +112,90 @@ fn names_ok(types: &[u8], base: usize, t: usize, n: usize) -> bool
 }
 
 // The fields of row t by its form: plain, list, tuple, function.
-fn plain_ok(types: &[u8], base: usize, t: usize) -> bool
-    requires { ⌜ base + 36 * t + 36 ≤ length (now types) ⌝ }
-    ensures { λ b. ⌜ b ≡ plainOk (typeAt (now (types .entry)) base t) ⌝ }
+fn plain_ok(types: &[u8], t: usize) -> bool
+    requires { ⌜ 36 * t + 36 ≤ length (now types) ⌝ }
+    ensures { λ b. ⌜ b ≡ plainOk (typeAt (now (types .entry)) t) ⌝ }
 {
-    if layout::parts_in(types, base, t) != 0 {
+    if layout::parts_no(types, t) != 0 {
         return false;
     }
-    if layout::result_in(types, base, t) != 0 {
+    if layout::result_no(types, t) != 0 {
         return false;
     }
     true
 }
 
-fn list_ok(types: &[u8], base: usize, t: usize) -> bool
-    requires { ⌜ base + 36 * t + 36 ≤ length (now types) ⌝ }
-    ensures { λ b. ⌜ b ≡ listOk t (typeAt (now (types .entry)) base t) ⌝ }
+fn list_ok(types: &[u8], t: usize) -> bool
+    requires { ⌜ 36 * t + 36 ≤ length (now types) ⌝ }
+    ensures { λ b. ⌜ b ≡ listOk t (typeAt (now (types .entry)) t) ⌝ }
 {
-    if layout::parts_in(types, base, t) != 0 {
+    if layout::parts_no(types, t) != 0 {
         return false;
     }
-    if t <= layout::result_in(types, base, t) as usize {
+    if t <= layout::result_no(types, t) as usize {
         return false;
     }
     true
 }
 
-fn tuple_ok(types: &[u8], base: usize, t: usize) -> bool
-    requires { ⌜ base + 36 * t + 36 ≤ length (now types) ⌝ }
-    ensures { λ b. ⌜ b ≡ tupleOk t (typeAt (now (types .entry)) base t) ⌝ }
+fn tuple_ok(types: &[u8], t: usize) -> bool
+    requires { ⌜ 36 * t + 36 ≤ length (now types) ⌝ }
+    ensures { λ b. ⌜ b ≡ tupleOk t (typeAt (now (types .entry)) t) ⌝ }
 {
-    let n = layout::parts_in(types, base, t) as usize;
+    let n = layout::parts_no(types, t) as usize;
     if n == 0 {
         return false;
     }
     if 8 < n {
         return false;
     }
-    if layout::result_in(types, base, t) != 0 {
+    if layout::result_no(types, t) != 0 {
         return false;
     }
-    if names_zero(types, base, t, n) {
-        return parts_below(types, base, t, n);
+    if names_zero(types, t, n) {
+        return parts_below(types, t, n);
     }
     false
 }
 
-fn function_ok(types: &[u8], base: usize, t: usize) -> bool
-    requires { ⌜ base + 36 * t + 36 ≤ length (now types) ⌝ }
-    ensures { λ b. ⌜ b ≡ functionOk t (typeAt (now (types .entry)) base t) ⌝ }
+fn function_ok(types: &[u8], t: usize) -> bool
+    requires { ⌜ 36 * t + 36 ≤ length (now types) ⌝ }
+    ensures { λ b. ⌜ b ≡ functionOk t (typeAt (now (types .entry)) t) ⌝ }
 {
-    let n = layout::parts_in(types, base, t) as usize;
+    let n = layout::parts_no(types, t) as usize;
     if 8 < n {
         return false;
     }
-    if t <= layout::result_in(types, base, t) as usize {
+    if t <= layout::result_no(types, t) as usize {
         return false;
     }
-    if names_ok(types, base, t, n) {
-        return parts_below(types, base, t, n);
+    if names_ok(types, t, n) {
+        return parts_below(types, t, n);
     }
     false
 }
 
-fn fields_ok(types: &[u8], base: usize, t: usize) -> bool
-    requires { ⌜ base + 36 * t + 36 ≤ length (now types) ⌝ }
-    ensures { λ b. ⌜ b ≡ fieldsOk t (typeAt (now (types .entry)) base t) ⌝ }
+fn fields_ok(types: &[u8], t: usize) -> bool
+    requires { ⌜ 36 * t + 36 ≤ length (now types) ⌝ }
+    ensures { λ b. ⌜ b ≡ fieldsOk t (typeAt (now (types .entry)) t) ⌝ }
 {
-    let form = layout::form_in(types, base, t);
-    let n = layout::parts_in(types, base, t) as usize;
-    if rest_zero(types, base, t, n) {
+    let form = layout::form_no(types, t);
+    let n = layout::parts_no(types, t) as usize;
+    if rest_zero(types, t, n) {
         if form == 0 {
             return false;
         }
         if form < 4 {
-            return plain_ok(types, base, t);
+            return plain_ok(types, t);
         }
         if form == 4 {
-            return list_ok(types, base, t);
+            return list_ok(types, t);
         }
         if form == 5 {
-            return tuple_ok(types, base, t);
+            return tuple_ok(types, t);
         }
         if form < 8 {
-            return function_ok(types, base, t);
+            return function_ok(types, t);
         }
         return false;
     }
@@ -203,33 +203,33 @@ fn fields_ok(types: &[u8], base: usize, t: usize) -> bool
 }
 
 // Rows t and u have the same numbers.
-fn same_row(types: &[u8], base: usize, t: usize, u: usize) -> bool
-    requires { ⌜ (base + 36 * t + 36 ≤ length (now types)) × (base + 36 * u + 36 ≤ length (now types)) ⌝ }
-    ensures { λ b. ⌜ b ≡ sameNumbers (typeAt (now (types .entry)) base t) (typeAt (now (types .entry)) base u) ⌝ }
+fn same_row(types: &[u8], t: usize, u: usize) -> bool
+    requires { ⌜ (36 * t + 36 ≤ length (now types)) × (36 * u + 36 ≤ length (now types)) ⌝ }
+    ensures { λ b. ⌜ b ≡ sameNumbers (typeAt (now (types .entry)) t) (typeAt (now (types .entry)) u) ⌝ }
 {
-    if layout::form_in(types, base, t) != layout::form_in(types, base, u) {
+    if layout::form_no(types, t) != layout::form_no(types, u) {
         return false;
     }
-    if layout::parts_in(types, base, t) != layout::parts_in(types, base, u) {
+    if layout::parts_no(types, t) != layout::parts_no(types, u) {
         return false;
     }
-    if layout::result_in(types, base, t) != layout::result_in(types, base, u) {
+    if layout::result_no(types, t) != layout::result_no(types, u) {
         return false;
     }
-    same_pairs(types, base, t, u)
+    same_pairs(types, t, u)
 }
 
 // The same of the eight pairs.
-fn same_pairs(types: &[u8], base: usize, t: usize, u: usize) -> bool
-    requires { ⌜ (base + 36 * t + 36 ≤ length (now types)) × (base + 36 * u + 36 ≤ length (now types)) ⌝ }
-    ensures { λ b. ⌜ b ≡ sameNumbers (drop 3 (typeAt (now (types .entry)) base t)) (drop 3 (typeAt (now (types .entry)) base u)) ⌝ }
+fn same_pairs(types: &[u8], t: usize, u: usize) -> bool
+    requires { ⌜ (36 * t + 36 ≤ length (now types)) × (36 * u + 36 ≤ length (now types)) ⌝ }
+    ensures { λ b. ⌜ b ≡ sameNumbers (drop 3 (typeAt (now (types .entry)) t)) (drop 3 (typeAt (now (types .entry)) u)) ⌝ }
 {
     let mut k = 0;
     while k < 8 {
-        if layout::name_in(types, base, t, k) != layout::name_in(types, base, u, k) {
+        if layout::name_no(types, t, k) != layout::name_no(types, u, k) {
             return false;
         }
-        if layout::type_in(types, base, t, k) != layout::type_in(types, base, u, k) {
+        if layout::type_no(types, t, k) != layout::type_no(types, u, k) {
             return false;
         }
         k += 1;
@@ -238,13 +238,13 @@ fn same_pairs(types: &[u8], base: usize, t: usize, u: usize) -> bool
 }
 
 // No earlier row equals row t.
-fn is_fresh(types: &[u8], base: usize, t: usize) -> bool
-    requires { ⌜ base + 36 * t + 36 ≤ length (now types) ⌝ }
-    ensures { λ b. ⌜ b ≡ fresh (table (now (types .entry)) base t) (typeAt (now (types .entry)) base t) ⌝ }
+fn is_fresh(types: &[u8], t: usize) -> bool
+    requires { ⌜ 36 * t + 36 ≤ length (now types) ⌝ }
+    ensures { λ b. ⌜ b ≡ fresh (rowsBefore (now (types .entry)) t) (typeAt (now (types .entry)) t) ⌝ }
 {
     let mut j = 0;
     while j < t {
-        if same_row(types, base, j, t) {
+        if same_row(types, j, t) {
             return false;
         }
         j += 1;
@@ -266,37 +266,37 @@ fn remember(known: &mut [u8; 256], t: usize, b: bool) -> bool
 }
 
 // Whether type t is ground, told by going down through its parts; the memo tells of those that are known.
-pub fn ground(types: &[u8], base: usize, count: usize, known: &mut [u8; 256], t: usize) -> bool
-    requires { ⌜ (base + 36 * count ≤ length (now types)) × (count ≤ 256) × (t < count) × Truthful (now known) (formOf (reads typeRow count (drop base (now types)))) ⌝ }
-    ensures { λ b. ⌜ Told (formOf (reads typeRow count (drop base (now (types .entry))))) (now (known .exit)) (ground (formOf (reads typeRow count (drop base (now (types .entry))))) t) b ⌝ }
+pub fn ground(types: &[u8], known: &mut [u8; 256], t: usize) -> bool
+    requires { ⌜ (36 * t + 36 ≤ length (now types)) × (length (now types) ≤ 9216) × Truthful (now known) (formOf (typeTable (now types))) ⌝ }
+    ensures { λ b. ⌜ Told (formOf (typeTable (now (types .entry)))) (now (known .exit)) (ground (formOf (typeTable (now (types .entry)))) t) b ⌝ }
 {
     let said = known[t];
     if said != 0 {
         return said == 1;
     }
-    let form = layout::form_in(types, base, t);
+    let form = layout::form_no(types, t);
     if form < 4 {
         return remember(known, t, 0 < form);
     }
     if form == 4 {
-        let e = layout::result_in(types, base, t) as usize;
+        let e = layout::result_no(types, t) as usize;
         if t <= e {
             return remember(known, t, false);
         }
-        let b = ground(types, base, count, known, e);
+        let b = ground(types, known, e);
         return remember(known, t, b);
     }
     if form != 5 {
         return remember(known, t, false);
     }
-    let n = part_count(types, base, t);
+    let n = part_count(types, t);
     let mut k = 0;
     while k < n {
-        let p = layout::type_in(types, base, t, k) as usize;
+        let p = layout::type_no(types, t, k) as usize;
         if t <= p {
             return remember(known, t, false);
         }
-        if ground(types, base, count, known, p) {
+        if ground(types, known, p) {
             k += 1;
         } else {
             return remember(known, t, false);
@@ -306,26 +306,26 @@ pub fn ground(types: &[u8], base: usize, count: usize, known: &mut [u8; 256], t:
 }
 
 // The same of any number: one beyond the table is no type.
-pub fn ground_at(types: &[u8], base: usize, count: usize, known: &mut [u8; 256], t: usize) -> bool
-    requires { ⌜ (base + 36 * count ≤ length (now types)) × (count ≤ 256) × Truthful (now known) (formOf (reads typeRow count (drop base (now types)))) ⌝ }
-    ensures { λ b. ⌜ Told (formOf (reads typeRow count (drop base (now (types .entry))))) (now (known .exit)) (ground (formOf (reads typeRow count (drop base (now (types .entry))))) t) b ⌝ }
+pub fn ground_at(types: &[u8], known: &mut [u8; 256], t: usize) -> bool
+    requires { ⌜ (length (now types) ≤ 9216) × Truthful (now known) (formOf (typeTable (now types))) ⌝ }
+    ensures { λ b. ⌜ Told (formOf (typeTable (now (types .entry)))) (now (known .exit)) (ground (formOf (typeTable (now (types .entry)))) t) b ⌝ }
 {
-    if count <= t {
+    if layout::type_rows(types) <= t {
         return false;
     }
-    ground(types, base, count, known, t)
+    ground(types, known, t)
 }
 
 // The arguments of row t are ground.
-fn parts_ground(types: &[u8], base: usize, count: usize, known: &mut [u8; 256], t: usize) -> bool
-    requires { ⌜ (base + 36 * count ≤ length (now types)) × (count ≤ 256) × (t < count) × Truthful (now known) (formOf (table (now types) base count)) ⌝ }
-    ensures { λ b. ⌜ Told (formOf (table (now (types .entry)) base count)) (now (known .exit)) (partsGround (formOf (table (now (types .entry)) base count)) (typeAt (now (types .entry)) base t)) b ⌝ }
+fn parts_ground(types: &[u8], known: &mut [u8; 256], t: usize) -> bool
+    requires { ⌜ (36 * t + 36 ≤ length (now types)) × (length (now types) ≤ 9216) × Truthful (now known) (formOf (typeTable (now types))) ⌝ }
+    ensures { λ b. ⌜ Told (formOf (typeTable (now (types .entry)))) (now (known .exit)) (partsGround (formOf (typeTable (now (types .entry)))) (typeAt (now (types .entry)) t)) b ⌝ }
 {
-    let n = part_count(types, base, t);
+    let n = part_count(types, t);
     let mut k = 0;
     while k < n {
-        let p = layout::type_in(types, base, t, k) as usize;
-        if ground_at(types, base, count, known, p) {
+        let p = layout::type_no(types, t, k) as usize;
+        if ground_at(types, known, p) {
             k += 1;
         } else {
             return false;
@@ -335,42 +335,35 @@ fn parts_ground(types: &[u8], base: usize, count: usize, known: &mut [u8; 256], 
 }
 
 // If row t is a foreign function, its arguments and its result are ground.
-fn ground_call(types: &[u8], base: usize, count: usize, known: &mut [u8; 256], t: usize) -> bool
-    requires { ⌜ (base + 36 * count ≤ length (now types)) × (count ≤ 256) × (t < count) × Truthful (now known) (formOf (table (now types) base count)) ⌝ }
-    ensures { λ b. ⌜ Told (formOf (table (now (types .entry)) base count)) (now (known .exit)) (groundCall (formOf (table (now (types .entry)) base count)) (typeAt (now (types .entry)) base t)) b ⌝ }
+fn ground_call(types: &[u8], known: &mut [u8; 256], t: usize) -> bool
+    requires { ⌜ (36 * t + 36 ≤ length (now types)) × (length (now types) ≤ 9216) × Truthful (now known) (formOf (typeTable (now types))) ⌝ }
+    ensures { λ b. ⌜ Told (formOf (typeTable (now (types .entry)))) (now (known .exit)) (groundCall (formOf (typeTable (now (types .entry)))) (typeAt (now (types .entry)) t)) b ⌝ }
 {
-    if layout::form_in(types, base, t) != 7 {
+    if layout::form_no(types, t) != 7 {
         return true;
     }
-    let e = layout::result_in(types, base, t) as usize;
-    if ground_at(types, base, count, known, e) {
-        return parts_ground(types, base, count, known, t);
+    let e = layout::result_no(types, t) as usize;
+    if ground_at(types, known, e) {
+        return parts_ground(types, known, t);
     }
     false
 }
 
 // Row t is good behind the earlier ones.
-fn type_ok(
-    types: &[u8],
-    base: usize,
-    count: usize,
-    edition: u16,
-    known: &mut [u8; 256],
-    t: usize,
-) -> bool
-    requires { ⌜ (base + 36 * count ≤ length (now types)) × (count ≤ 256) × (t < count) × Truthful (now known) (formOf (table (now types) base count)) ⌝ }
-    ensures { λ b. ⌜ Told (formOf (table (now (types .entry)) base count)) (now (known .exit)) (typeOk edition (table (now (types .entry)) base t) (typeAt (now (types .entry)) base t)) b ⌝ }
+fn type_ok(types: &[u8], edition: u16, known: &mut [u8; 256], t: usize) -> bool
+    requires { ⌜ (36 * t + 36 ≤ length (now types)) × (length (now types) ≤ 9216) × Truthful (now known) (formOf (typeTable (now types))) ⌝ }
+    ensures { λ b. ⌜ Told (formOf (typeTable (now (types .entry)))) (now (known .exit)) (typeOk edition (rowsBefore (now (types .entry)) t) (typeAt (now (types .entry)) t)) b ⌝ }
 {
-    let form = layout::form_in(types, base, t);
+    let form = layout::form_no(types, t);
     if form == 0 {
         return false;
     }
     if last_form(edition) < form {
         return false;
     }
-    if fields_ok(types, base, t) {
-        if is_fresh(types, base, t) {
-            return ground_call(types, base, count, known, t);
+    if fields_ok(types, t) {
+        if is_fresh(types, t) {
+            return ground_call(types, known, t);
         }
         return false;
     }
@@ -378,15 +371,16 @@ fn type_ok(
 }
 
 // Refusal 6: the first bad row. Whether a row's type is ground is told before the next row, so that no walk goes deep.
-pub fn bad_type(types: &[u8], base: usize, count: usize, edition: u16) -> Found
-    requires { ⌜ (base + 36 * count ≤ length (now types)) × (count ≤ 256) ⌝ }
-    ensures { λ r. ⌜ found r ≡ badType edition (reads typeRow count (drop base (now (types .entry)))) ⌝ }
+pub fn bad_type(types: &[u8], edition: u16) -> Found
+    requires { ⌜ length (now types) ≤ 9216 ⌝ }
+    ensures { λ r. ⌜ found r ≡ badType edition (typeTable (now (types .entry))) ⌝ }
 {
+    let count = layout::type_rows(types);
     let mut known = [0u8; 256];
     let mut i = 0;
     while i < count {
-        if type_ok(types, base, count, edition, &mut known, i) {
-            ground(types, base, count, &mut known, i);
+        if type_ok(types, edition, &mut known, i) {
+            ground(types, &mut known, i);
             i += 1;
         } else {
             return Found::At(i as u32);

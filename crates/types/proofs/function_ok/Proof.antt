@@ -14,14 +14,14 @@ function-ok-spec =
     (λ c κs. search needs)
     (λ c. search needs)
     -- returns
-    (λ c. let a = c .before .before .before .args in let r = typeAt (a .types .now) (a .base) (a .t) in sym (function-many (a .t) r _ (c .before .parts-in .ensures) (c .if1 .taken)))
+    (λ c. let a = c .before .before .before .args in let r = typeAt (a .types .now) (a .t) in sym (function-many (a .t) r _ (c .before .parts-no .ensures) (c .if1 .taken)))
     (λ c κs. search needs)
     (λ c. search needs)
     -- returns-2
-    (λ c. let a = c .before .before .before .before .before .args in let r = typeAt (a .types .now) (a .base) (a .t) in sym (function-result (a .t) r _ (c .before .before .before .parts-in .ensures) (omega arith) _ (c .before .result-in .ensures) (c .if2 .taken)))
+    (λ c. let a = c .before .before .before .before .before .args in let r = typeAt (a .types .now) (a .t) in sym (function-result (a .t) r _ (c .before .before .before .parts-no .ensures) (omega arith) _ (c .before .result-no .ensures) (c .if2 .taken)))
     (λ c κs. search needs)
     (λ c κs. search needs)
     -- returns-3
-    (λ c. let a = c .before .before .before .before .before .before .before .before .args in let r = typeAt (a .types .now) (a .base) (a .t) in c .parts-below .ensures ∙ sym (function-parts (a .t) r _ (c .before .before .before .before .before .before .parts-in .ensures) (omega arith) _ (c .before .before .before .before .result-in .ensures) (c .before .before .before .if2 .left) (sym (c .before .before .names-ok .ensures) ∙ c .before .if3 .taken)))
+    (λ c. let a = c .before .before .before .before .before .before .before .before .args in let r = typeAt (a .types .now) (a .t) in c .parts-below .ensures ∙ sym (function-parts (a .t) r _ (c .before .before .before .before .before .before .parts-no .ensures) (omega arith) _ (c .before .before .before .before .result-no .ensures) (c .before .before .before .if2 .left) (sym (c .before .before .names-ok .ensures) ∙ c .before .if3 .taken)))
     -- returns-4
-    (λ c. let a = c .before .before .before .before .before .before .before .args in let r = typeAt (a .types .now) (a .base) (a .t) in sym (function-names (a .t) r _ (c .before .before .before .before .before .parts-in .ensures) (omega arith) _ (c .before .before .before .result-in .ensures) (c .before .before .if2 .left) (sym (c .before .names-ok .ensures) ∙ c .if3 .left))))
+    (λ c. let a = c .before .before .before .before .before .before .before .args in let r = typeAt (a .types .now) (a .t) in sym (function-names (a .t) r _ (c .before .before .before .before .before .parts-no .ensures) (omega arith) _ (c .before .before .before .result-no .ensures) (c .before .before .if2 .left) (sym (c .before .names-ok .ensures) ∙ c .if3 .left))))

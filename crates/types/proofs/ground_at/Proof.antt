@@ -2,10 +2,19 @@
 use mathlib.Core.Path.{sym}
 use native.Mathlib.Omega.{arith}
 use Rattle.types.proofs.BadLaws.{ground-beyond}
+use borrow.Author.Needs.{needs}
 use Rattle.types.proofs.ground_at.Statement.{statement}
 use Rattle.types.proofs.ground_at.Tie as tie
 
 pub ground-at-spec : {M : Type 1} → statement M
-ground-at-spec = tie.close (tie.spec  -- returns
-    (λ c. let a = c .before .before .args in record { answer = sym (ground-beyond (a .types .now) (a .base) (a .count) (a .t) (c .if1 .taken)); memo = c .before .before .pre .2 })  -- ground-requires
-    (λ c κs. (omega arith, omega arith, omega arith, c .before .before .before .pre .2)) (λ c. c .ground .ensures))
+ground-at-spec =
+    tie.close
+    (tie.spec
+    (λ c κs. search needs)
+    -- returns
+    (λ c.
+    let a = c .before .before .before .args in
+    record { answer = sym (ground-beyond (a .types .now) (a .t) (omega (arith, c .before .type-rows .ensures, c .if1 .taken))); memo = c .before .before .before .pre .1 })
+    -- ground-requires
+    (λ c κs. (omega arith, omega arith, c .before .before .before .before .pre .1))
+    (λ c. c .ground .ensures))

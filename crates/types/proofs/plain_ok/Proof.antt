@@ -9,6 +9,6 @@ use Rattle.types.proofs.plain_ok.Tie as tie
 pub plain-ok-spec : {M : Type 1} → statement M
 plain-ok-spec =
     tie.close (tie.spec (λ c κs. search needs)  -- returns
-    (λ c. unfold plainOk _∧ᵇ_ in rw (← c .before .parts-in .ensures, ne-eqb _ _ (c .if1 .taken))) (λ c κs. search needs)  -- returns-2
-    (λ c. unfold plainOk _∧ᵇ_ in rw (← c .before .before .before .parts-in .ensures, eq-eqb _ _ (c .before .before .if1 .left), ← c .before .result-in .ensures, ne-eqb _ _ (c .if2 .taken)))  -- returns-3
-    (λ c. unfold plainOk _∧ᵇ_ in rw (← c .before .before .before .parts-in .ensures, eq-eqb _ _ (c .before .before .if1 .left), ← c .before .result-in .ensures, eq-eqb _ _ (c .if2 .left))))
+    (λ c. unfold plainOk _∧ᵇ_ in rw (← c .before .parts-no .ensures, ne-eqb _ _ (c .if1 .taken))) (λ c κs. search needs)  -- returns-2
+    (λ c. unfold plainOk _∧ᵇ_ in rw (← c .before .before .before .parts-no .ensures, eq-eqb _ _ (c .before .before .if1 .left), ← c .before .result-no .ensures, ne-eqb _ _ (c .if2 .taken)))  -- returns-3
+    (λ c. unfold plainOk _∧ᵇ_ in rw (← c .before .before .before .parts-no .ensures, eq-eqb _ _ (c .before .before .if1 .left), ← c .before .result-no .ensures, eq-eqb _ _ (c .if2 .left))))

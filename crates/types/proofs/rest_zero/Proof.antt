@@ -11,10 +11,10 @@ use Rattle.types.proofs.rest_zero.Statement.{statement}
 use Rattle.types.proofs.rest_zero.Tie as tie
 
 abbrev Inv-loop : tie.InvT-loop
-Inv-loop types base t n k₀ k = zeros (drop (3 + 2 * k) (typeAt types base t)) ≡ zeros (drop (3 + 2 * n) (typeAt types base t))
+Inv-loop types t n k₀ k = zeros (drop (3 + 2 * k) (typeAt types t)) ≡ zeros (drop (3 + 2 * n) (typeAt types t))
 
 abbrev μ-loop : tie.MeasureT-loop
-μ-loop types base t n k₀ k = 8 - k
+μ-loop types t n k₀ k = 8 - k
 
 pub rest-zero-spec : {M : Type 1} → statement M
 rest-zero-spec =
@@ -28,30 +28,30 @@ rest-zero-spec =
     (λ c.
     let a = c .before .before .before .before .before .args in
     let l = c .before .before .before .loop in
-    let r = typeAt (a .types .now) (a .base) (a .t) in
-    let z = row-length (drop (a .base + 36 * a .t) (a .types .now)) in
-    sym (rest-name r z (l .k) _ (omega arith) (c .before .name-in .ensures) (c .if1 .taken)) ∙ l .inv)
+    let r = typeAt (a .types .now) (a .t) in
+    let z = row-length (drop (36 * a .t) (a .types .now)) in
+    sym (rest-name r z (l .k) _ (omega arith) (c .before .name-no .ensures) (c .if1 .taken)) ∙ l .inv)
     (λ c κs. omega arith)
     -- returns-2
     (λ c.
     let a = c .before .before .before .before .before .before .before .args in
     let l = c .before .before .before .before .before .loop in
-    let r = typeAt (a .types .now) (a .base) (a .t) in
-    let z = row-length (drop (a .base + 36 * a .t) (a .types .now)) in
-    sym (rest-type r z (l .k) _ _ (omega arith) (c .before .before .before .name-in .ensures) (c .before .before .if1 .left) (c .before .type-in .ensures) (c .if2 .taken)) ∙ l .inv)
+    let r = typeAt (a .types .now) (a .t) in
+    let z = row-length (drop (36 * a .t) (a .types .now)) in
+    sym (rest-type r z (l .k) _ _ (omega arith) (c .before .before .before .name-no .ensures) (c .before .before .if1 .left) (c .before .type-no .ensures) (c .if2 .taken)) ∙ l .inv)
     (λ c. omega arith)
     (λ c. omega arith)
     -- loop-again
     (λ c.
     let a = c .before .before .before .before .before .before .before .args in
     let l = c .before .before .before .before .before .loop in
-    let r = typeAt (a .types .now) (a .base) (a .t) in
-    let z = row-length (drop (a .base + 36 * a .t) (a .types .now)) in
-    sym (rest-on r z (l .k) _ _ (omega arith) (c .before .before .before .name-in .ensures) (c .before .before .if1 .left) (c .before .type-in .ensures) (c .if2 .left)) ∙ l .inv)
+    let r = typeAt (a .types .now) (a .t) in
+    let z = row-length (drop (36 * a .t) (a .types .now)) in
+    sym (rest-on r z (l .k) _ _ (omega arith) (c .before .before .before .name-no .ensures) (c .before .before .if1 .left) (c .before .type-no .ensures) (c .if2 .left)) ∙ l .inv)
     -- returns-3
     (λ c.
     let a = c .before .before .before .args in
     let l = c .before .loop in
-    let r = typeAt (a .types .now) (a .base) (a .t) in
-    let z = row-length (drop (a .base + 36 * a .t) (a .types .now)) in
+    let r = typeAt (a .types .now) (a .t) in
+    let z = row-length (drop (36 * a .t) (a .types .now)) in
     sym (rest-end r z (l .k) (omega arith)) ∙ l .inv))

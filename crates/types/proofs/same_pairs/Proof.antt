@@ -11,10 +11,10 @@ use Rattle.types.proofs.same_pairs.Statement.{statement}
 use Rattle.types.proofs.same_pairs.Tie as tie
 
 abbrev Inv-loop : tie.InvT-loop
-Inv-loop types base t u k₀ k = sameNumbers (drop (3 + 2 * k) (typeAt types base t)) (drop (3 + 2 * k) (typeAt types base u)) ≡ sameNumbers (drop 3 (typeAt types base t)) (drop 3 (typeAt types base u))
+Inv-loop types t u k₀ k = sameNumbers (drop (3 + 2 * k) (typeAt types t)) (drop (3 + 2 * k) (typeAt types u)) ≡ sameNumbers (drop 3 (typeAt types t)) (drop 3 (typeAt types u))
 
 abbrev μ-loop : tie.MeasureT-loop
-μ-loop types base t u k₀ k = 8 - k
+μ-loop types t u k₀ k = 8 - k
 
 pub same-pairs-spec : {M : Type 1} → statement M
 same-pairs-spec =
@@ -29,39 +29,39 @@ same-pairs-spec =
     (λ c.
     let a = c .before .before .before .before .before .before .args in
     let l = c .before .before .before .before .loop in
-    let r = typeAt (a .types .now) (a .base) (a .t) in
-    let q = typeAt (a .types .now) (a .base) (a .u) in
-    let z = row-length (drop (a .base + 36 * a .t) (a .types .now)) in
-    let y = row-length (drop (a .base + 36 * a .u) (a .types .now)) in
-    sym (pair-name r q z y (l .k) (omega arith) _ _ (c .before .before .name-in .ensures) (c .before .name-in2 .ensures) (c .if1 .taken)) ∙ l .inv)
+    let r = typeAt (a .types .now) (a .t) in
+    let q = typeAt (a .types .now) (a .u) in
+    let z = row-length (drop (36 * a .t) (a .types .now)) in
+    let y = row-length (drop (36 * a .u) (a .types .now)) in
+    sym (pair-name r q z y (l .k) (omega arith) _ _ (c .before .before .name-no .ensures) (c .before .name-no2 .ensures) (c .if1 .taken)) ∙ l .inv)
     (λ c κs. omega arith)
     (λ c κs. omega arith)
     -- returns-2
     (λ c.
     let a = c .before .before .before .before .before .before .before .before .before .args in
     let l = c .before .before .before .before .before .before .before .loop in
-    let r = typeAt (a .types .now) (a .base) (a .t) in
-    let q = typeAt (a .types .now) (a .base) (a .u) in
-    let z = row-length (drop (a .base + 36 * a .t) (a .types .now)) in
-    let y = row-length (drop (a .base + 36 * a .u) (a .types .now)) in
-    sym (pair-type r q z y (l .k) (omega arith) _ _ (c .before .before .before .before .before .name-in .ensures) (c .before .before .before .before .name-in2 .ensures) _ _ (c .before .before .before .if1 .left) (c .before .before .type-in .ensures) (c .before .type-in2 .ensures) (c .if2 .taken)) ∙ l .inv)
+    let r = typeAt (a .types .now) (a .t) in
+    let q = typeAt (a .types .now) (a .u) in
+    let z = row-length (drop (36 * a .t) (a .types .now)) in
+    let y = row-length (drop (36 * a .u) (a .types .now)) in
+    sym (pair-type r q z y (l .k) (omega arith) _ _ (c .before .before .before .before .before .name-no .ensures) (c .before .before .before .before .name-no2 .ensures) _ _ (c .before .before .before .if1 .left) (c .before .before .type-no .ensures) (c .before .type-no2 .ensures) (c .if2 .taken)) ∙ l .inv)
     (λ c. omega arith)
     (λ c. omega arith)
     -- loop-again
     (λ c.
     let a = c .before .before .before .before .before .before .before .before .before .args in
     let l = c .before .before .before .before .before .before .before .loop in
-    let r = typeAt (a .types .now) (a .base) (a .t) in
-    let q = typeAt (a .types .now) (a .base) (a .u) in
-    let z = row-length (drop (a .base + 36 * a .t) (a .types .now)) in
-    let y = row-length (drop (a .base + 36 * a .u) (a .types .now)) in
-    sym (pair-on r q z y (l .k) (omega arith) _ _ (c .before .before .before .before .before .name-in .ensures) (c .before .before .before .before .name-in2 .ensures) _ _ (c .before .before .before .if1 .left) (c .before .before .type-in .ensures) (c .before .type-in2 .ensures) (c .if2 .left)) ∙ l .inv)
+    let r = typeAt (a .types .now) (a .t) in
+    let q = typeAt (a .types .now) (a .u) in
+    let z = row-length (drop (36 * a .t) (a .types .now)) in
+    let y = row-length (drop (36 * a .u) (a .types .now)) in
+    sym (pair-on r q z y (l .k) (omega arith) _ _ (c .before .before .before .before .before .name-no .ensures) (c .before .before .before .before .name-no2 .ensures) _ _ (c .before .before .before .if1 .left) (c .before .before .type-no .ensures) (c .before .type-no2 .ensures) (c .if2 .left)) ∙ l .inv)
     -- returns-3
     (λ c.
     let a = c .before .before .before .args in
     let l = c .before .loop in
-    let r = typeAt (a .types .now) (a .base) (a .t) in
-    let q = typeAt (a .types .now) (a .base) (a .u) in
-    let z = row-length (drop (a .base + 36 * a .t) (a .types .now)) in
-    let y = row-length (drop (a .base + 36 * a .u) (a .types .now)) in
+    let r = typeAt (a .types .now) (a .t) in
+    let q = typeAt (a .types .now) (a .u) in
+    let z = row-length (drop (36 * a .t) (a .types .now)) in
+    let y = row-length (drop (36 * a .u) (a .types .now)) in
     sym (pairs-end r q z y (l .k) (omega arith)) ∙ l .inv))

@@ -1,5 +1,5 @@
 -- `types::same_row` meets its contract: number by number. Assumes nothing.
-use Prim.Native.Nat.{_+_, _*_}
+use Prim.Native.Nat.{_*_}
 use mathlib.Core.Path.{sym, _∙_}
 use native.Mathlib.Omega.{arith}
 use lib.ListN.{drop}
@@ -19,37 +19,37 @@ same-row-spec =
     -- returns
     (λ c.
     let a = c .before .before .before .before .args in
-    let r = typeAt (a .types .now) (a .base) (a .t) in
-    let q = typeAt (a .types .now) (a .base) (a .u) in
-    let z = row-length (drop (a .base + 36 * a .t) (a .types .now)) in
-    let y = row-length (drop (a .base + 36 * a .u) (a .types .now)) in
-    sym (same-no r q 0 _ _ (omega arith) (omega arith) (c .before .before .form-in .ensures) (c .before .form-in2 .ensures) (c .if1 .taken)))
+    let r = typeAt (a .types .now) (a .t) in
+    let q = typeAt (a .types .now) (a .u) in
+    let z = row-length (drop (36 * a .t) (a .types .now)) in
+    let y = row-length (drop (36 * a .u) (a .types .now)) in
+    sym (same-no r q 0 _ _ (omega arith) (omega arith) (c .before .before .form-no .ensures) (c .before .form-no2 .ensures) (c .if1 .taken)))
     (λ c κs. search needs)
     (λ c κs. search needs)
     -- returns-2
     (λ c.
     let a = c .before .before .before .before .before .before .before .args in
-    let r = typeAt (a .types .now) (a .base) (a .t) in
-    let q = typeAt (a .types .now) (a .base) (a .u) in
-    let z = row-length (drop (a .base + 36 * a .t) (a .types .now)) in
-    let y = row-length (drop (a .base + 36 * a .u) (a .types .now)) in
-    sym (same-on r q 0 _ _ (omega arith) (omega arith) (c .before .before .before .before .before .form-in .ensures) (c .before .before .before .before .form-in2 .ensures) (c .before .before .before .if1 .left) ∙ same-no r q 1 _ _ (omega arith) (omega arith) (c .before .before .parts-in .ensures) (c .before .parts-in2 .ensures) (c .if2 .taken)))
+    let r = typeAt (a .types .now) (a .t) in
+    let q = typeAt (a .types .now) (a .u) in
+    let z = row-length (drop (36 * a .t) (a .types .now)) in
+    let y = row-length (drop (36 * a .u) (a .types .now)) in
+    sym (same-on r q 0 _ _ (omega arith) (omega arith) (c .before .before .before .before .before .form-no .ensures) (c .before .before .before .before .form-no2 .ensures) (c .before .before .before .if1 .left) ∙ same-no r q 1 _ _ (omega arith) (omega arith) (c .before .before .parts-no .ensures) (c .before .parts-no2 .ensures) (c .if2 .taken)))
     (λ c κs. search needs)
     (λ c κs. search needs)
     -- returns-3
     (λ c.
     let a = c .before .before .before .before .before .before .before .before .before .before .args in
-    let r = typeAt (a .types .now) (a .base) (a .t) in
-    let q = typeAt (a .types .now) (a .base) (a .u) in
-    let z = row-length (drop (a .base + 36 * a .t) (a .types .now)) in
-    let y = row-length (drop (a .base + 36 * a .u) (a .types .now)) in
-    sym (same-on r q 0 _ _ (omega arith) (omega arith) (c .before .before .before .before .before .before .before .before .form-in .ensures) (c .before .before .before .before .before .before .before .form-in2 .ensures) (c .before .before .before .before .before .before .if1 .left) ∙ same-on r q 1 _ _ (omega arith) (omega arith) (c .before .before .before .before .before .parts-in .ensures) (c .before .before .before .before .parts-in2 .ensures) (c .before .before .before .if2 .left) ∙ same-no r q 2 _ _ (omega arith) (omega arith) (c .before .before .result-in .ensures) (c .before .result-in2 .ensures) (c .if3 .taken)))
+    let r = typeAt (a .types .now) (a .t) in
+    let q = typeAt (a .types .now) (a .u) in
+    let z = row-length (drop (36 * a .t) (a .types .now)) in
+    let y = row-length (drop (36 * a .u) (a .types .now)) in
+    sym (same-on r q 0 _ _ (omega arith) (omega arith) (c .before .before .before .before .before .before .before .before .form-no .ensures) (c .before .before .before .before .before .before .before .form-no2 .ensures) (c .before .before .before .before .before .before .if1 .left) ∙ same-on r q 1 _ _ (omega arith) (omega arith) (c .before .before .before .before .before .parts-no .ensures) (c .before .before .before .before .parts-no2 .ensures) (c .before .before .before .if2 .left) ∙ same-no r q 2 _ _ (omega arith) (omega arith) (c .before .before .result-no .ensures) (c .before .result-no2 .ensures) (c .if3 .taken)))
     (λ c κs. search needs)
     -- returns-4
     (λ c.
     let a = c .before .before .before .before .before .before .before .before .before .before .before .args in
-    let r = typeAt (a .types .now) (a .base) (a .t) in
-    let q = typeAt (a .types .now) (a .base) (a .u) in
-    let z = row-length (drop (a .base + 36 * a .t) (a .types .now)) in
-    let y = row-length (drop (a .base + 36 * a .u) (a .types .now)) in
-    c .same-pairs .ensures ∙ sym (same-on r q 0 _ _ (omega arith) (omega arith) (c .before .before .before .before .before .before .before .before .before .form-in .ensures) (c .before .before .before .before .before .before .before .before .form-in2 .ensures) (c .before .before .before .before .before .before .before .if1 .left) ∙ same-on r q 1 _ _ (omega arith) (omega arith) (c .before .before .before .before .before .before .parts-in .ensures) (c .before .before .before .before .before .parts-in2 .ensures) (c .before .before .before .before .if2 .left) ∙ same-on r q 2 _ _ (omega arith) (omega arith) (c .before .before .before .result-in .ensures) (c .before .before .result-in2 .ensures) (c .before .if3 .left))))
+    let r = typeAt (a .types .now) (a .t) in
+    let q = typeAt (a .types .now) (a .u) in
+    let z = row-length (drop (36 * a .t) (a .types .now)) in
+    let y = row-length (drop (36 * a .u) (a .types .now)) in
+    c .same-pairs .ensures ∙ sym (same-on r q 0 _ _ (omega arith) (omega arith) (c .before .before .before .before .before .before .before .before .before .form-no .ensures) (c .before .before .before .before .before .before .before .before .form-no2 .ensures) (c .before .before .before .before .before .before .before .if1 .left) ∙ same-on r q 1 _ _ (omega arith) (omega arith) (c .before .before .before .before .before .before .parts-no .ensures) (c .before .before .before .before .before .parts-no2 .ensures) (c .before .before .before .before .if2 .left) ∙ same-on r q 2 _ _ (omega arith) (omega arith) (c .before .before .before .result-no .ensures) (c .before .before .result-no2 .ensures) (c .before .if3 .left))))

@@ -14,15 +14,15 @@ tuple-ok-spec =
     (λ c κs. search needs)
     (λ c. search needs)
     -- returns
-    (λ c. let a = c .before .before .before .args in let r = typeAt (a .types .now) (a .base) (a .t) in sym (tuple-none (a .t) r _ (c .before .parts-in .ensures) (c .if1 .taken)))
+    (λ c. let a = c .before .before .before .args in let r = typeAt (a .types .now) (a .t) in sym (tuple-none (a .t) r _ (c .before .parts-no .ensures) (c .if1 .taken)))
     -- returns-2
-    (λ c. let a = c .before .before .before .before .args in let r = typeAt (a .types .now) (a .base) (a .t) in sym (tuple-many (a .t) r _ (c .before .before .parts-in .ensures) (c .if2 .taken)))
+    (λ c. let a = c .before .before .before .before .args in let r = typeAt (a .types .now) (a .t) in sym (tuple-many (a .t) r _ (c .before .before .parts-no .ensures) (c .if2 .taken)))
     (λ c κs. search needs)
     -- returns-3
-    (λ c. let a = c .before .before .before .before .before .before .args in let r = typeAt (a .types .now) (a .base) (a .t) in sym (tuple-result (a .t) r _ (c .before .before .before .before .parts-in .ensures) (omega arith) (omega arith) _ (c .before .result-in .ensures) (c .if3 .taken)))
+    (λ c. let a = c .before .before .before .before .before .before .args in let r = typeAt (a .types .now) (a .t) in sym (tuple-result (a .t) r _ (c .before .before .before .before .parts-no .ensures) (omega arith) (omega arith) _ (c .before .result-no .ensures) (c .if3 .taken)))
     (λ c κs. search needs)
     (λ c κs. search needs)
     -- returns-4
-    (λ c. let a = c .before .before .before .before .before .before .before .before .before .args in let r = typeAt (a .types .now) (a .base) (a .t) in c .parts-below .ensures ∙ sym (tuple-parts (a .t) r _ (c .before .before .before .before .before .before .before .parts-in .ensures) (omega arith) (omega arith) _ (c .before .before .before .before .result-in .ensures) (c .before .before .before .if3 .left) (sym (c .before .before .names-zero .ensures) ∙ c .before .if4 .taken)))
+    (λ c. let a = c .before .before .before .before .before .before .before .before .before .args in let r = typeAt (a .types .now) (a .t) in c .parts-below .ensures ∙ sym (tuple-parts (a .t) r _ (c .before .before .before .before .before .before .before .parts-no .ensures) (omega arith) (omega arith) _ (c .before .before .before .before .result-no .ensures) (c .before .before .before .if3 .left) (sym (c .before .before .names-zero .ensures) ∙ c .before .if4 .taken)))
     -- returns-5
-    (λ c. let a = c .before .before .before .before .before .before .before .before .args in let r = typeAt (a .types .now) (a .base) (a .t) in sym (tuple-names (a .t) r _ (c .before .before .before .before .before .before .parts-in .ensures) (omega arith) (omega arith) _ (c .before .before .before .result-in .ensures) (c .before .before .if3 .left) (sym (c .before .names-zero .ensures) ∙ c .if4 .left))))
+    (λ c. let a = c .before .before .before .before .before .before .before .before .args in let r = typeAt (a .types .now) (a .t) in sym (tuple-names (a .t) r _ (c .before .before .before .before .before .before .parts-no .ensures) (omega arith) (omega arith) _ (c .before .before .before .result-no .ensures) (c .before .before .if3 .left) (sym (c .before .names-zero .ensures) ∙ c .if4 .left))))
