@@ -2,5 +2,6 @@
 pub mod Layouts
 pub mod RowTables
 pub mod TypeTables
+pub mod TypeRows
 pub mod Records
 pub mod Files

@@ -2,6 +2,7 @@
 pub mod Refusals
 pub mod Running
 pub mod Loading
+pub mod PaperTyped
 pub mod OpenList
 pub mod Replying
 pub mod GoodStays

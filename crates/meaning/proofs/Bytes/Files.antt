@@ -276,7 +276,7 @@ no-futures (r ∷ l) (e, d) = (due r e, no-futures l d)
     due r e k q = absurd (false≢true (rw q at e))
 
 module _ (m : Limits) (file : List ℕ) (l : LegalFile m file) where
-  file-tree : (map raw (flat (fileTree file)) ≡ fileRows file) × (size (fileTree file) ≡ length (fileRows file)) × Every (legal (fileTypeCount file)) (fileTree file)
+  pub file-tree : (map raw (flat (fileTree file)) ≡ fileRows file) × (size (fileTree file) ≡ length (fileRows file)) × Every (legal (fileTypeCount file)) (fileTree file)
   unfolding fileTree fileRows
   file-tree = shape-whole (fileTypeCount file) (fileRows file) (rw (l .edition) at (l .one-tree)) (reads-wide termRow (fileRowCount file) _)
 

@@ -6,12 +6,13 @@ use mathlib.Core.List.{List, [], _∷_, _++_, append-nil}
 use mathlib.Core.Option.{Option, none, some}
 use native.Mathlib.Omega.{arith}
 use native.Mathlib.Decide.{ℕ-discrete, decLt}
-use borrow.Author.Tests.{leb-true, ltb-true, ne-eqb, not-true}
+use borrow.Author.Tests.{leb-true, lt-ltb, ltb-true, ne-eqb, not-true}
 use lib.Dec.{eqb, leb, ltb}
 use lib.ListN.{length, take, getD, length-append, List·getD-eq-default}
 use lib.Seq.{append-snoc, length-take-le, getD-take}
 use Rattle.meaning.specs.Bytes.{_∧ᵇ_}
 use Rattle.meaning.specs.Types.{Base, Str, File, Truth, Side, ntv, frn, Param, Form, absent, base, fList, fTuple, fFun, types, names, formNo, partsNo, result, parts, formRow, formOf, every, groundForm, groundBelow, ground, lastForm, distinct, below, nonzero, listOk, tupleOk, namesOk, functionOk, fieldsOk, fresh, groundCall, typeOk, badTypeFrom, badType, sameNumbers}
+use Rattle.meaning.specs.Typing.{baseNo}
 use Rattle.meaning.specs.Records.{version}
 use Rattle.meaning.proofs.Trees.Tests.{left, right, both, within-if, numbers-same, none-some}
 use Rattle.meaning.proofs.Bytes.RowTables.{passes, Below, start, _▸_, below-at}
@@ -157,13 +158,13 @@ sideNo frn = 7
 -- what a row's form number makes of it
 pub data RowForm (r : List ℕ) : Type 0 where
   formless : (1 ≤ formNo r → 8 ≤ formNo r) → formRow r ≡ absent → RowForm r
-  ofBase : (b : Base) → formNo r < 4 → formRow r ≡ base b → RowForm r
+  ofBase : (b : Base) → formNo r ≡ baseNo b → formRow r ≡ base b → RowForm r
   ofList : formNo r ≡ 4 → formRow r ≡ fList (result r) → RowForm r
   ofTuple : formNo r ≡ 5 → formRow r ≡ fTuple (types (parts r)) → RowForm r
   ofFun : (s : Side) → formNo r ≡ sideNo s → formRow r ≡ fFun s (parts r) (result r) → RowForm r
 
 pub row-form : (r : List ℕ) → RowForm r
-unfolding formRow sideNo
+unfolding formRow sideNo baseNo
 row-form r = elim (decLt (formNo r) 8) [
   | yes h ↦ below-at (λ k. formNo r ≡ k → RowForm r) 8 known (formNo r) h refl
   | no h ↦ formless (λ l. omega arith) (let other : (k : ℕ) → k < 8 → eqb (formNo r) k ≡ false = λ k l. ne-eqb (formNo r) k (λ e. omega arith) in rw (other 1 (omega arith), other 2 (omega arith), other 3 (omega arith), other 4 (omega arith), other 5 (omega arith), other 6 (omega arith), other 7 (omega arith)) refl)
@@ -173,9 +174,9 @@ row-form r = elim (decLt (formNo r) 8) [
     known =
         start
         ▸ (λ e. formless (λ l. omega arith) (rw e refl))
-        ▸ (λ e. ofBase Str (omega arith) (rw e refl))
-        ▸ (λ e. ofBase File (omega arith) (rw e refl))
-        ▸ (λ e. ofBase Truth (omega arith) (rw e refl))
+        ▸ (λ e. ofBase Str e (rw e refl))
+        ▸ (λ e. ofBase File e (rw e refl))
+        ▸ (λ e. ofBase Truth e (rw e refl))
         ▸ (λ e. ofList e (rw e refl))
         ▸ (λ e. ofTuple e (rw e refl))
         ▸ (λ e. ofFun ntv e (rw e refl))
@@ -195,6 +196,10 @@ pub record Promises (form : ℕ → Form) (count : ℕ) : Type 0 where
 pub below-if : (i t : ℕ) → below i t ≡ true → t < i
 unfolding below
 below-if i t e = ltb-true t i e
+
+pub below-of : (i t : ℕ) → t < i → below i t ≡ true
+unfolding below
+below-of i t h = lt-ltb t i h
 
 every-map : (p q q′ : ℕ → Bool) (xs : List ℕ) → ((x : ℕ) → p x ≡ true → q x ≡ true → q′ x ≡ true) → every p xs ≡ true → every q xs ≡ true → every q′ xs ≡ true
 unfolding every
