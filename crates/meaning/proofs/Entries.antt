@@ -10,5 +10,6 @@ pub mod OnGoodStates
 pub mod Alive
 pub mod Paths
 pub mod Histories
+pub mod InOrder
 pub mod Reports
 pub mod Letters

@@ -26,7 +26,7 @@ use Rattle.meaning.proofs.Bytes.Records.{Small, arm-small, Good}
 use Rattle.meaning.proofs.Typing.GroundValues.{Plain}
 use Rattle.meaning.proofs.Steps.Sends.{sent-type}
 use Rattle.meaning.proofs.Steps.EachRowKept.{Parts, legal-step, listed-step}
-use Rattle.meaning.proofs.Entries.Running.{stepOf, MaySend, send-allowed, behindStep, Passes}
+use Rattle.meaning.proofs.Entries.Running.{stepOf, MaySend, behindStep, Passes}
 use Rattle.meaning.proofs.Entries.OpenList.{each-append, each-more, rises-with, listed-with, listed-new, length-with, each-without, length-without, rises-without, listed-without}
 use Rattle.meaning.proofs.Entries.Replying.{reply-tree, accepted-reply, plain-reply}
 
@@ -115,7 +115,7 @@ parts m s g = record { elem = λ t e h q. omega (arith, promised (s .types) (g .
 numbered : (m : Limits) (s : State) (c : Option Call) → Board m → Good m s → MaySend m s c → (d : Call) → c ≡ some d → (1 ≤ s .next) × (s .next ≤ 65535)
 unfolding MaySend
 numbered m s none b g k d e = absurd (none-some d e)
-numbered m s (some c) b g k d e = (g .nextLow, omega (arith, b .numbers, send-allowed m s k))
+numbered m s (some c) b g k d e = (g .nextLow, omega (arith, b .numbers, k .1))
 
 -- behind a step, whatever it does to the list
 module _ (m : Limits) (b : Board m) (s : State) (g : Good m s) (c : Option Call) (u : Tree) (e : stepOf s ≡ go c u) (may : MaySend m s c) where
@@ -172,12 +172,12 @@ send-stays m b s g c u e may h =
       rowsMany = h;
       legalRows = tree-legal m b s g (some c) u e may;
       typed = d;
-      callsMany = omega (arith, send-allowed m s may, length-with (s .calls) (entered s c));
+      callsMany = omega (arith, may .0, length-with (s .calls) (entered s c));
       callsRise = rises-with (s .calls) (entered s c) 0 (g .nextLow) (g .callsBelow) (g .callsRise);
       callsBelow = each-append _ (s .calls) (entered s c ∷ []) (each-more _ _ (s .calls) (λ x l. omega arith) (g .callsBelow)) (omega arith, tt);
       callsGround = each-append _ (s .calls) (entered s c ∷ []) (g .callsGround) (promised (s .types) (g .typesPass) .call r .0, tt);
       nextLow = omega arith;
-      nextHigh = omega (arith, send-allowed m s may);
+      nextHigh = omega (arith, may .1);
       listed = listed-step form (listed (s .calls ++ (entered s c ∷ []))) (s .next) (s .tree) (some c) u (λ d x. new ∙ ap (λ (y : Call). some (y .result)) (some-call c d x)) (listed-more (s .calls) (entered s c) (s .tree) (g .listed)) e;
       program = q ∙ g .program;
     }

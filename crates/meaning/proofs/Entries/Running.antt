@@ -16,15 +16,14 @@ use Rattle.meaning.specs.Records.{State}
 use Rattle.meaning.specs.Entries.{sendMeets, Try, halt, pass, need, unmet, stepped, sent, tryOut, try, onStep, nextState}
 use Rattle.meaning.specs.declared.Answer.{Answer}
 use Rattle.meaning.specs.declared.Answer.the-variants.{Value, Waiting, Sent, Held, Budget, Room, Numbers}
-use Rattle.meaning.proofs.Trees.Tests.{none-some}
 
 abbrev pub stepOf : State → Out
 stepOf s = step (formOf (s .types)) (s .next) (s .tree)
 
--- a send meets no limit
+-- a send finds the list not full and a number left
 unfoldable pub MaySend : Limits → State → Option Call → Type 0
 MaySend m s none = Unit {0}
-MaySend m s (some c) = sendMeets m s ≡ none
+MaySend m s (some c) = (length (s .calls) < m .calls) × (s .next ≤ m .lastNumber)
 
 -- what it meets: HELD exactly if the list is full, NUMBERS exactly if it is not and no number is left
 pub data SendMeets (m : Limits) (s : State) : Type 0 where
@@ -44,12 +43,9 @@ send-meets m s = by-calls (ltb (length (s .calls)) (m .calls)) refl
     by-calls true p = by-number p (leb (s .next) (m .lastNumber)) refl
     by-calls false p = meets-held (rw p refl) (ltb-false _ _ p)
 
-pub send-allowed : (m : Limits) (s : State) → sendMeets m s ≡ none → (length (s .calls) < m .calls) × (s .next ≤ m .lastNumber)
-send-allowed m s e = elim (send-meets m s) [
-  | meets-nothing q a b ↦ (a, b)
-  | meets-held q a ↦ absurd (none-some Held (sym e ∙ q))
-  | meets-numbers q a b ↦ absurd (none-some Numbers (sym e ∙ q))
-]
+pub nothing-meets : (m : Limits) (s : State) → length (s .calls) < m .calls → s .next ≤ m .lastNumber → sendMeets m s ≡ none
+unfolding sendMeets
+nothing-meets m s a b = rw (lt-ltb (length (s .calls)) (m .calls) a, le-leb (s .next) (m .lastNumber) b) refl
 
 pub held-meets : (m : Limits) (s : State) → m .calls ≤ length (s .calls) → sendMeets m s ≡ some Held
 unfolding sendMeets
@@ -99,7 +95,7 @@ room-tells m s c u v e k false q = (v, (c, u, e, k, leb-false _ _ q))
 send-tells : (m : Limits) (s : State) (c : Call) (u : Tree) → value (s .tree) ≡ false → stepOf s ≡ go (some c) u → SendMeets m s
     → Truthful m s (unmet (sendMeets m s) (need (leb (size u) (m .rows)) Room (pass (some c) (behindStep s (some c) u))))
 unfolding Truthful unmet Stops MaySend
-send-tells m s c u v e (meets-nothing q a b) = rw q (room-tells m s (some c) u v e q (leb (size u) (m .rows)) refl)
+send-tells m s c u v e (meets-nothing q a b) = rw q (room-tells m s (some c) u v e (a, b) (leb (size u) (m .rows)) refl)
 send-tells m s c u v e (meets-held q a) = rw q (v, (c, u, e, a))
 send-tells m s c u v e (meets-numbers q a b) = rw q (v, (c, u, e, a, b))
 
@@ -136,14 +132,14 @@ stops-of m s (Sent k) z = absurd z
 stops-of m s Held (v, (c, u, e, h)) = rw (v, e, held-meets m s h) refl
 stops-of m s Budget z = absurd z
 stops-of m s Room (v, (none, u, e, k, h)) = rw (v, e, lt-leb (size u) (m .rows) h) refl
-stops-of m s Room (v, (some c, u, e, k, h)) = rw (v, e, k, lt-leb (size u) (m .rows) h) refl
+stops-of m s Room (v, (some c, u, e, (k, n), h)) = rw (v, e, nothing-meets m s k n, lt-leb (size u) (m .rows) h) refl
 stops-of m s Numbers (v, (c, u, e, k, h)) = rw (v, e, numbers-meets m s k h) refl
 
 pub passes-of : (m : Limits) (s : State) (c : Option Call) (u : State) → Passes m s c u → try m s ≡ pass c u
 unfolding MaySend try tryOut need unmet behindStep
 passes-of m s none u p = rw (p .open-term, p .steps, le-leb (size (p .tree)) (m .rows) (p .room)) (ap (pass none) (sym (p .state)))
 passes-of m s (some c) u p =
-    rw (p .open-term, p .steps, p .may, le-leb (size (p .tree)) (m .rows) (p .room))
+    rw (p .open-term, p .steps, nothing-meets m s (p .may .0) (p .may .1), le-leb (size (p .tree)) (m .rows) (p .room))
     (ap (pass (some c)) (sym (p .state)))
 
 -- so where a step is made, none of them holds
