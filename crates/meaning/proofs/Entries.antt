@@ -1,4 +1,5 @@
 -- Load, run and reply; histories.
+pub mod InOrder
 pub mod Refusals
 pub mod Running
 pub mod Loading
@@ -10,6 +11,5 @@ pub mod OnGoodStates
 pub mod Alive
 pub mod Paths
 pub mod Histories
-pub mod InOrder
 pub mod Reports
 pub mod Letters

@@ -98,12 +98,12 @@ unfolding First require
 first-require ls P true r v h k f = inr (h refl, f)
 first-require ls P false r v h k f = inl (r, ((λ p. false≢true (k p)), refl), refl)
 
-first-refuse : (ls : List Line) (o : Option ℕ) (g : ℕ → Refusal) (v : Verdict) → First ls v → First (found o g ∷ ls) (refuse o g v)
+pub first-refuse : (ls : List Line) (o : Option ℕ) (g : ℕ → Refusal) (v : Verdict) → First ls v → First (found o g ∷ ls) (refuse o g v)
 unfolding First refuse
 first-refuse ls none g v f = inr (refl, f)
 first-refuse ls (some i) g v f = inl (g i, (i, refl, refl), refl)
 
-first-shape : (ls : List Line) (s : Shape) (g : Fault → ℕ → Refusal) (v : Verdict) → First ls v → First (shaped s g ∷ ls) (refuseShape s g v)
+pub first-shape : (ls : List Line) (s : Shape) (g : Fault → ℕ → Refusal) (v : Verdict) → First ls v → First (shaped s g ∷ ls) (refuseShape s g v)
 unfolding First refuseShape
 first-shape ls Whole g v f = inr (refl, f)
 first-shape ls (Bad x i) g v f = inl (g x i, (x, i, refl, refl), refl)
@@ -112,13 +112,27 @@ first-fails : (ls : List Line) (P : Type 0) (r : Refusal) → (P → ⊥) → Fi
 unfolding First
 first-fails ls P r h = inl (r, (h, refl), refl)
 
-first-holds : (ls : List Line) (P : Type 0) (r : Refusal) (v : Verdict) → P → First ls v → First (test P r ∷ ls) v
+pub first-on : (l : Line) (ls : List Line) (v : Verdict) → l .asks → First ls v → First (l ∷ ls) v
 unfolding First
-first-holds ls P r v p f = inr (p, f)
+first-on l ls v p f = inr (p, f)
 
-first-none : First [] Accepted
+pub first-none : First [] Accepted
 unfolding First
 first-none = refl
+
+-- where a verdict accepts, every line has what it asks for
+unfoldable pub AllAsk : List Line → Type 0
+AllAsk [] = Unit {0}
+AllAsk (l ∷ ls) = l .asks × AllAsk ls
+
+pub never-accepted : (r : Refusal) → Refused r ≡ Accepted → ⊥
+never-accepted r e = let z : _≡_ {A = ℕ} 0 1 = cc in omega arith
+
+pub first-accepted : (ls : List Line) (v : Verdict) → First ls v → v ≡ Accepted → AllAsk ls
+unfolding First AllAsk
+first-accepted [] v f e = tt
+first-accepted (l ∷ ls) v (inl (r, g, q)) e = absurd (never-accepted r (sym q ∙ e))
+first-accepted (l ∷ ls) v (inr (a, f)) e = (a, first-accepted ls v f e)
 
 -- Load -------------------------------------------------------------------------------------------------------------
 
@@ -126,10 +140,10 @@ count-told : (m : Limits) (z t r : ℕ) → (eqb z 0 ∧ᵇ within 1 (m .types) 
     → (z ≡ 0) × ((1 ≤ t) × (t ≤ m .types)) × ((1 ≤ r) × (r ≤ m .programRows))
 count-told m z t r e = (eqb-true _ _ (left _ _ e), within-if _ _ _ (left _ _ (right _ _ e)), within-if _ _ _ (right _ _ (right _ _ e)))
 
-pub load-in-order : (m : Limits) (file kept : List ℕ) → First (loadLines m file (length kept)) (load m file kept .verdict)
-unfolding load loadVerdict programVerdict
-load-in-order m file kept =
-    first-require _ _ _ Length _ (eqb-true (length kept) (recordBytes m)) (eq-eqb (length kept) (recordBytes m))
+pub verdict-in-order : (m : Limits) (file : List ℕ) (room : ℕ) → First (loadLines m file room) (loadVerdict m file room)
+unfolding loadVerdict programVerdict
+verdict-in-order m file room =
+    first-require _ _ _ Length _ (eqb-true room (recordBytes m)) (eq-eqb room (recordBytes m))
     (first-require _ _ _ Size _ (leb-true (width fileHead) (length file)) (le-leb (width fileHead) (length file))
     (first-require _ _ _ Mark _ (numbers-is _ _) (λ e. rw e (numbers-same (84 ∷ 67 ∷ 65 ∷ [])))
     (first-require _ _ _ Version _ (eqb-true (fileEdition file) version) (eq-eqb (fileEdition file) version)
@@ -140,6 +154,10 @@ load-in-order m file kept =
     (first-shape _ (shape (fileEdition file) (fileTypeCount file) (fileRows file)) Row _
     (first-refuse _ (firstNot noFuture (fileRows file)) Future _
     (first-refuse _ (firstBad (formOf (fileTypes file)) empty (fileTree file)) Typing _ first-none)))))))))
+
+pub load-in-order : (m : Limits) (file kept : List ℕ) → First (loadLines m file (length kept)) (load m file kept .verdict)
+unfolding load
+load-in-order m file kept = verdict-in-order m file (length kept)
 
 -- Run --------------------------------------------------------------------------------------------------------------
 
@@ -172,7 +190,7 @@ run-in-order m kept work budget =
 
 -- Reply ------------------------------------------------------------------------------------------------------------
 
-header-told : (m : Limits) (answer : List ℕ) → replyHeadOk m answer ≡ true
+pub header-told : (m : Limits) (answer : List ℕ) → replyHeadOk m answer ≡ true
     → (width replyHead ≤ length answer) × ((1 ≤ replyCount answer) × (replyCount answer ≤ m .replyRows)) × (replyNo 2 answer ≡ 0) × (length answer ≡ width replyHead + width termRow * replyCount answer)
 unfolding replyHeadOk
 header-told m answer e =
@@ -180,7 +198,7 @@ header-told m answer e =
     let g = right _ _ f in
     (leb-true _ _ (left _ _ e), within-if _ _ _ (left _ _ f), eqb-true _ _ (left _ _ g), eqb-true _ _ (right _ _ g))
 
-header-of : (m : Limits) (answer : List ℕ)
+pub header-of : (m : Limits) (answer : List ℕ)
     → (width replyHead ≤ length answer) × ((1 ≤ replyCount answer) × (replyCount answer ≤ m .replyRows)) × (replyNo 2 answer ≡ 0) × (length answer ≡ width replyHead + width termRow * replyCount answer)
     → replyHeadOk m answer ≡ true
 unfolding replyHeadOk
@@ -198,7 +216,7 @@ open-in-order : (m : Limits) (s : State) (answer : List ℕ) (o : Option ℕ)
 unfolding answerVerdict
 open-in-order m s answer none = first-fails _ _ NotOpen (λ p. none-some (p .0) (p .1))
 open-in-order m s answer (some t) =
-    first-holds _ _ NotOpen _ (t, refl)
+    first-on (test ((y : ℕ) × (some t ≡ some y)) NotOpen) _ _ (t, refl)
     (first-shape _ (shape version (length (s .types)) (replyRows answer)) ReplyRow _
     (first-refuse _ (firstNot replyKind (replyRows answer)) ReplyKind _
     (first-refuse _ (replyBad (formOf (s .types)) t (replyTree answer)) ReplyTyping _
@@ -276,7 +294,10 @@ unfolding AllSharp
 load-order-one m file room =
     (test-sharp _ _, (test-sharp _ _, (test-sharp _ _, (test-sharp _ _, (test-sharp _ _, (test-sharp _ _, (found-sharp _ _, (shaped-sharp _ _, (found-sharp _ _, (found-sharp _ _, tt))))))))))
 
+pub answer-order-one : (m : Limits) (s : State) (answer : List ℕ) → AllSharp (answerLines m s answer)
+unfolding AllSharp
+answer-order-one m s answer = (test-sharp _ _, (test-sharp _ _, (shaped-sharp _ _, (found-sharp _ _, (found-sharp _ _, (test-sharp _ _, tt))))))
+
 pub reply-order-one : (m : Limits) (kept work answer : List ℕ) → AllSharp (replyLines m kept work answer)
 unfolding AllSharp
-reply-order-one m kept work answer =
-    (test-sharp _ _, (test-sharp _ _, (test-sharp _ _, (test-sharp _ _, (shaped-sharp _ _, (found-sharp _ _, (found-sharp _ _, (test-sharp _ _, tt))))))))
+reply-order-one m kept work answer = (test-sharp _ _, (test-sharp _ _, answer-order-one m (stateOf m kept) answer))

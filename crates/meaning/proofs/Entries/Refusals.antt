@@ -3,22 +3,24 @@ use Prim.Native.Nat.{ℕ}
 use mathlib.Core.Path.{_≡_, refl}
 use mathlib.Core.Bool.{Bool, true, false, cond}
 use mathlib.Core.List.{List, [], _∷_}
-use mathlib.Core.Option.{Option, none, some}
+use mathlib.Core.Logic.{inl, inr}
+use mathlib.Core.Option.{Option}
+use lib.ListN.{length}
 use native.Mathlib.Omega.{arith}
 use Rattle.meaning.specs.Bytes.{Limits}
 use Rattle.meaning.specs.Types.{member}
 use Rattle.meaning.specs.Answers.{refusalNumber}
 use Rattle.meaning.specs.Records.{State, sound, stateOf}
-use Rattle.meaning.specs.Entries.{leaves, load, loadVerdict, programVerdict, require, refuse, refuseShape, RunOut, Ended, runs, run, rejected, ranOut, lent, Replied, reply, repliedOut, replyVerdict, answerVerdict}
+use Rattle.meaning.specs.Entries.{leaves, load, RunOut, Ended, runs, run, rejected, ranOut, lent, Replied, reply, repliedOut, replyVerdict}
 use Rattle.meaning.specs.declared.Fault.{Fault}
 use Rattle.meaning.specs.declared.Shape.{Shape}
-use Rattle.meaning.specs.declared.Shape.the-variants.{Whole, Bad}
 use Rattle.meaning.specs.declared.Refusal.{Refusal}
 use Rattle.meaning.specs.declared.Refusal.the-variants.{Length, Size, Mark, Version, Count, TypeRow, Row, Future, Typing, Unsound, Header, NotOpen, ReplyRow, ReplyKind, ReplyTyping, ReplyRoom}
 use Rattle.meaning.specs.declared.Verdict.{Verdict}
 use Rattle.meaning.specs.declared.Verdict.the-variants.{Accepted, Refused}
 use Rattle.meaning.specs.declared.Run.{Run}
 use Rattle.meaning.specs.declared.Run.the-variants.{Ran, Rejected}
+use Rattle.meaning.proofs.Entries.InOrder.{Line, First, test, found, shaped, loadLines, replyLines, load-in-order, reply-in-order}
 
 leaves-old : (v : Verdict) (r : Refusal) (new old : List ℕ) → v ≡ Refused r → leaves v new old ≡ old
 unfolding leaves
@@ -82,66 +84,93 @@ pub among-accepted : (ns : List ℕ) → Among ns Accepted
 unfolding Among
 among-accepted ns = tt
 
-among-refuse : (ns : List ℕ) (o : Option ℕ) (f : ℕ → Refusal) (v : Verdict) → ((i : ℕ) → member (refusalNumber (f i)) ns ≡ true) → Among ns v → Among ns (refuse o f v)
-unfolding refuse Among
-among-refuse ns none f v h k = k
-among-refuse ns (some i) f v h k = h i
+-- of a verdict by lines, if each line gives such refusals only
+unfoldable pub LinesAmong : List ℕ → List Line → Type 0
+LinesAmong ns [] = Unit {0}
+LinesAmong ns (l ∷ ls) = ((r : Refusal) → l .gives r → member (refusalNumber r) ns ≡ true) × LinesAmong ns ls
 
-among-shape : (ns : List ℕ) (s : Shape) (f : Fault → ℕ → Refusal) (v : Verdict) → ((g : Fault) (i : ℕ) → member (refusalNumber (f g i)) ns ≡ true) → Among ns v → Among ns (refuseShape s f v)
-unfolding refuseShape Among
-among-shape ns Whole f v h k = k
-among-shape ns (Bad g i) f v h k = h g i
+first-among : (ns : List ℕ) (ls : List Line) (v : Verdict) → LinesAmong ns ls → First ls v → Among ns v
+unfolding LinesAmong First
+first-among ns [] v k e = rw e (among-accepted ns)
+first-among ns (l ∷ ls) v (h, k) (inl (r, g, e)) = rw e (among-refused ns r (h r g))
+first-among ns (l ∷ ls) v (h, k) (inr (a, f)) = first-among ns ls v k f
 
-among-require : (ns : List ℕ) (b : Bool) (r : Refusal) (v : Verdict) → member (refusalNumber r) ns ≡ true → Among ns v → Among ns (require b r v)
-unfolding require Among
-among-require ns true r v p q = q
-among-require ns false r v p q = p
+test-among : (ns : List ℕ) (P : Type 0) (r : Refusal) → member (refusalNumber r) ns ≡ true → (x : Refusal) → test P r .gives x → member (refusalNumber x) ns ≡ true
+test-among ns P r e x (_, q) = rw q e
+
+found-among : (ns : List ℕ) (o : Option ℕ) (f : ℕ → Refusal) → ((i : ℕ) → member (refusalNumber (f i)) ns ≡ true) → (x : Refusal) → found o f .gives x → member (refusalNumber x) ns ≡ true
+found-among ns o f e x (i, _, q) = rw q (e i)
+
+shaped-among : (ns : List ℕ) (s : Shape) (f : Fault → ℕ → Refusal) → ((g : Fault) (i : ℕ) → member (refusalNumber (f g i)) ns ≡ true) → (x : Refusal) → shaped s f .gives x → member (refusalNumber x) ns ≡ true
+shaped-among ns s f e x (g, i, _, q) = rw q (e g i)
 
 abbrev pub loadNumbers : List ℕ
 loadNumbers = 1 ∷ 2 ∷ 3 ∷ 4 ∷ 5 ∷ 6 ∷ 7 ∷ 8 ∷ 9 ∷ []
 
-program-among : (file : List ℕ) → Among loadNumbers (programVerdict file)
-unfolding programVerdict member
-program-among file =
-    among-refuse loadNumbers _ TypeRow _ (λ i. refl)
-    (among-shape loadNumbers _ Row _ (λ g i. refl)
-    (among-refuse loadNumbers _ Future _ (λ i. refl)
-    (among-refuse loadNumbers _ Typing Accepted (λ i. refl) (among-accepted loadNumbers))))
-
 -- load: one of 1 to 9
 pub load-among : (m : Limits) (file kept : List ℕ) → Among loadNumbers (load m file kept .verdict)
-unfolding load loadVerdict member
+unfolding LinesAmong member
 load-among m file kept =
-    among-require loadNumbers _ Length _ refl
-    (among-require loadNumbers _ Size _ refl
-    (among-require loadNumbers _ Mark _ refl
-    (among-require loadNumbers _ Version _ refl
-    (among-require loadNumbers _ Count _ refl
-    (among-require loadNumbers _ Size _ refl (program-among file))))))
+    first-among loadNumbers (loadLines m file (length kept)) _ (
+      test-among loadNumbers _ Length refl,
+      (
+        test-among loadNumbers _ Size refl,
+        (
+          test-among loadNumbers _ Mark refl,
+          (
+            test-among loadNumbers _ Version refl,
+            (
+              test-among loadNumbers _ Count refl,
+              (
+                test-among loadNumbers _ Size refl,
+                (
+                  found-among loadNumbers _ TypeRow (λ i. refl),
+                  (
+                    shaped-among loadNumbers _ Row (λ g i. refl),
+                    (
+                      found-among loadNumbers _ Future (λ i. refl),
+                      (found-among loadNumbers _ Typing (λ i. refl), tt),
+                    ),
+                  ),
+                ),
+              ),
+            ),
+          ),
+        ),
+      ),
+    )
+    (load-in-order m file kept)
 
 abbrev pub replyNumbers : List ℕ
 replyNumbers = 1 ∷ 10 ∷ 11 ∷ 12 ∷ 13 ∷ 14 ∷ 15 ∷ 16 ∷ []
 
-answer-among : (m : Limits) (s : State) (answer : List ℕ) (o : Option ℕ) → Among replyNumbers (answerVerdict m s answer o)
-unfolding answerVerdict member
-answer-among m s answer none = among-refused replyNumbers NotOpen refl
-answer-among m s answer (some ty) =
-    among-shape replyNumbers _ ReplyRow _ (λ g i. refl)
-    (among-refuse replyNumbers _ ReplyKind _ (λ i. refl)
-    (among-refuse replyNumbers _ ReplyTyping _ (λ i. refl) (among-require replyNumbers _ ReplyRoom Accepted refl (among-accepted replyNumbers))))
-
 -- reply: 1, 10 or 11 to 16
 pub reply-among : (m : Limits) (kept work answer : List ℕ) → Among replyNumbers (reply m kept work answer .verdict)
-unfolding reply replyVerdict member repliedOut
-reply-among m kept work answer = go (lent m kept work) (sound m kept)
-  where
-    s : State
-    s = stateOf m kept
-
-    go : (a b : Bool) → Among replyNumbers (cond a (cond b (repliedOut m s answer kept work (replyVerdict m s answer)) (repliedOut m s answer kept work (Refused Unsound))) (repliedOut m s answer kept work (Refused Length)) .verdict)
-    go true true = among-require replyNumbers _ Header _ refl (answer-among m s answer _)
-    go true false = among-refused replyNumbers Unsound refl
-    go false b = among-refused replyNumbers Length refl
+unfolding LinesAmong member
+reply-among m kept work answer =
+    first-among replyNumbers (replyLines m kept work answer) _ (
+      test-among replyNumbers _ Length refl,
+      (
+        test-among replyNumbers _ Unsound refl,
+        (
+          test-among replyNumbers _ Header refl,
+          (
+            test-among replyNumbers _ NotOpen refl,
+            (
+              shaped-among replyNumbers _ ReplyRow (λ g i. refl),
+              (
+                found-among replyNumbers _ ReplyKind (λ i. refl),
+                (
+                  found-among replyNumbers _ ReplyTyping (λ i. refl),
+                  (test-among replyNumbers _ ReplyRoom refl, tt),
+                ),
+              ),
+            ),
+          ),
+        ),
+      ),
+    )
+    (reply-in-order m kept work answer)
 
 unfoldable pub RunAmong : Run → Type 0
 RunAmong (Ran a n) = Unit {0}

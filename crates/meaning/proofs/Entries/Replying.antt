@@ -6,27 +6,24 @@ use mathlib.Core.Bool.{Bool, true, false, cond}
 use mathlib.Core.Logic.{_↔_}
 use mathlib.Core.List.{List, [], _∷_, map}
 use mathlib.Core.Option.{Option, none, some}
-use native.Mathlib.Omega.{arith}
-use borrow.Author.Tests.{leb-true, le-leb, eqb-true, eq-eqb}
+use borrow.Author.Tests.{eqb-true, eq-eqb}
 use lib.ListN.{length, drop}
 use Rattle.meaning.specs.Bytes.{width, termRow, replyHead, Limits}
-use Rattle.meaning.specs.Types.{formOf, ground, empty}
-use Rattle.meaning.specs.Terms.{tyOf, Row, flat, size, raw, shape}
+use Rattle.meaning.specs.Types.{Form, formOf, ground, empty}
+use Rattle.meaning.specs.Terms.{Tree, tyOf, Row, flat, size, raw, shape}
 use Rattle.meaning.specs.Typing.{Typed, stop}
 use Rattle.meaning.specs.Steps.{value, settle}
 use Rattle.meaning.specs.Records.{State, Entry, version, firstNot, listed}
-use Rattle.meaning.specs.Entries.{LegalReply, replyNumber, replyCount, replyRows, replyTree, replyKind, replyBad, answerVerdict, replyVerdict}
+use Rattle.meaning.specs.Entries.{LegalReply, replyNumber, replyCount, replyRows, replyTree, replyKind, replyBad, replyVerdict}
 use Rattle.meaning.specs.declared.Shape.the-variants.{Whole}
-use Rattle.meaning.specs.declared.Refusal.{Refusal}
-use Rattle.meaning.specs.declared.Refusal.the-variants.{Header, NotOpen, ReplyRow, ReplyKind, ReplyTyping, ReplyRoom}
-use Rattle.meaning.specs.declared.Verdict.the-variants.{Accepted, Refused}
+use Rattle.meaning.specs.declared.Verdict.the-variants.{Accepted}
 use Rattle.meaning.proofs.Trees.Tests.{none-some}
 use Rattle.meaning.proofs.Trees.EachRow.{Every, AllRows, every-rows, rows-every}
 use Rattle.meaning.proofs.Bytes.Layouts.{reads-wide}
 use Rattle.meaning.proofs.Bytes.RowTables.{legal, shape-whole}
 use Rattle.meaning.proofs.Typing.FirstBad.{typed-if, typed-of}
 use Rattle.meaning.proofs.Bytes.Records.{Good}
-use Rattle.meaning.proofs.Entries.Loading.{required, require-pass, not-refused, refuse-pass, whole-shape, shape-pass}
+use Rattle.meaning.proofs.Entries.InOrder.{listedType, answerLines, first-on, first-none, AllAsk, first-accepted, header-told, header-of, answer-in-order, first-one, answer-order-one}
 use Rattle.meaning.proofs.Entries.OpenList.{listed-fact}
 use Rattle.meaning.proofs.Typing.GroundValues.{Plain, value-plain, plain-value}
 
@@ -83,27 +80,23 @@ unfolding stop
 stopped true o e = (refl, e)
 stopped false o e = (cc, cc)
 
-pub never-accepted : (r : Refusal) → Refused r ≡ Accepted → ⊥
-never-accepted r e = let z : _≡_ {A = ℕ} 0 1 = cc in omega arith
-
-accepted-answers : (m : Limits) (s : State) (answer : List ℕ) (o : Option ℕ) → listed (s .calls) (replyNumber answer) ≡ o → answerVerdict m s answer o ≡ Accepted → Answers m s answer
-unfolding answerVerdict replyBad
-accepted-answers m s answer none q e = absurd (never-accepted NotOpen e)
-accepted-answers m s answer (some ty) q e =
-    let (a, e₁) = whole-shape _ _ _ e in
-    let (b, e₂) = not-refused _ _ _ e₁ in
-    let (c, e₃) = not-refused _ _ _ e₂ in
-    let (d, _) = required _ _ _ e₃ in
-    let (f, g) = stopped _ _ c in
-    let o = reply-tree (length (s .types)) answer a in
-    record {
-      type = ty;
-      open-call = q;
-      typed = typed-if (formOf (s .types)) empty (replyTree answer) g;
-      a-value = plain-value (replyTree answer) (kinds-plain (length (s .types)) answer o b);
-      of-type = eqb-true _ _ f;
-      fits = leb-true _ _ d;
-    }
+-- an accepted reply is of legal form and answers an open call
+pub accepted-reply : (m : Limits) (s : State) (answer : List ℕ) → replyVerdict m s answer ≡ Accepted → LegalReply m s answer × Answers m s answer
+unfolding AllAsk replyBad
+accepted-reply m s answer e =
+    let (a, ((ty, q), (b, (c, (d, (f, _)))))) = first-accepted (answerLines m s answer) _ (answer-in-order m s answer) e in
+    let (g, h) = stopped _ _ d in
+    let o = reply-tree (length (s .types)) answer b in (
+      record { header = header-of m answer a; one-tree = b },
+      record {
+        type = ty;
+        open-call = q;
+        typed = typed-if (formOf (s .types)) empty (replyTree answer) h;
+        a-value = plain-value (replyTree answer) (kinds-plain (length (s .types)) answer o c);
+        of-type = eqb-true _ _ g ∙ ap listedType q;
+        fits = f;
+      },
+    )
 
 -- the reply's rows are of those kinds: its type is ground
 pub plain-reply : (m : Limits) (s : State) (answer : List ℕ) → Good m s → Answers m s answer → Every Plain (replyTree answer)
@@ -111,33 +104,23 @@ plain-reply m s answer g a =
     value-plain (formOf (s .types)) (a .type) (replyTree answer)
     (listed-fact (λ (x : Entry). ground (formOf (s .types)) (x .type) ≡ true) (s .calls) (replyNumber answer) (a .type) (g .callsGround) (a .open-call)) (a .a-value) (a .typed) (a .of-type)
 
-answers-accepted : (m : Limits) (s : State) (answer : List ℕ) → Good m s → shape version (length (s .types)) (replyRows answer) ≡ Whole → (a : Answers m s answer) → answerVerdict m s answer (some (a .type)) ≡ Accepted
-unfolding answerVerdict replyBad stop
-answers-accepted m s answer g e a =
-    let o = reply-tree (length (s .types)) answer e in
-    shape-pass _ ReplyRow _ e
-    ∙ refuse-pass _ ReplyKind _ (plain-kinds (length (s .types)) answer o (plain-reply m s answer g a))
-    ∙ refuse-pass _ ReplyTyping _ (rw (eq-eqb (tyOf (replyTree answer)) (a .type) (a .of-type)) (typed-of (formOf (s .types)) empty (replyTree answer) (a .typed)))
-    ∙ require-pass _ ReplyRoom Accepted (le-leb _ _ (a .fits))
-
-whole-answer : (m : Limits) (s : State) (answer : List ℕ) (o : Option ℕ) → answerVerdict m s answer o ≡ Accepted → shape version (length (s .types)) (replyRows answer) ≡ Whole
-unfolding answerVerdict
-whole-answer m s answer none e = absurd (never-accepted NotOpen e)
-whole-answer m s answer (some ty) e = whole-shape _ _ _ e .0
-
--- an accepted reply is of legal form and answers an open call
-pub accepted-reply : (m : Limits) (s : State) (answer : List ℕ) → replyVerdict m s answer ≡ Accepted → LegalReply m s answer × Answers m s answer
-unfolding replyVerdict
-accepted-reply m s answer e =
-    let (a, e₁) = required _ _ _ e in
-    (record { header = a; one-tree = whole-answer m s answer _ e₁ }, accepted-answers m s answer _ refl e₁)
+replied-well : (form : ℕ → Form) (o : Option ℕ) (ty : ℕ) (v : Tree) → o ≡ some ty → tyOf v ≡ ty → Typed form empty v → replyBad form (listedType o) v ≡ none
+unfolding replyBad stop
+replied-well form o ty v e q t = rw (e, eq-eqb (tyOf v) ty q) (typed-of form empty v t)
 
 -- demand 2: "On a sound record a reply of legal form is accepted exactly if its number is open, it is a value of that call's type and it fits"
 pub takes : (m : Limits) (s : State) (answer : List ℕ) → Good m s → LegalReply m s answer → (replyVerdict m s answer ≡ Accepted) ↔ Answers m s answer
-unfolding replyVerdict
 takes m s answer g l = (
   (λ e. accepted-reply m s answer e .1),
-  (λ a. require-pass _ Header _ (l .header) ∙ ap (answerVerdict m s answer) (a .open-call) ∙ answers-accepted m s answer g (l .one-tree) a),
+  (λ a.
+      let o = reply-tree (length (s .types)) answer (l .one-tree) in
+      first-one (answerLines m s answer) _ _ (answer-order-one m s answer) (answer-in-order m s answer)
+      (first-on _ _ _ (header-told m answer (l .header))
+      (first-on _ _ _ (a .type, a .open-call)
+      (first-on _ _ _ (l .one-tree)
+      (first-on _ _ _ (plain-kinds (length (s .types)) answer o (plain-reply m s answer g a))
+      (first-on _ _ _ (replied-well (formOf (s .types)) (listed (s .calls) (replyNumber answer)) (a .type) (replyTree answer) (a .open-call) (a .of-type) (a .typed))
+      (first-on _ _ _ (a .fits) first-none))))))),
 )
 
 -- "no reply is taken for a number that is not open"

@@ -26,7 +26,8 @@ use Rattle.meaning.proofs.Bytes.Layouts.{AllBytes, padded-none}
 use Rattle.meaning.proofs.Bytes.Records.{Small, Good, good-state, state-record}
 use Rattle.meaning.proofs.Entries.Paths.{reached, Walk, run-walks, path-keeps, each-reached, path-makes, path-within, Ending, path-ends}
 use Rattle.meaning.proofs.Entries.OpenList.{gone, listed-without}
-use Rattle.meaning.proofs.Entries.Replying.{never-accepted, Answers, takes}
+use Rattle.meaning.proofs.Entries.InOrder.{never-accepted}
+use Rattle.meaning.proofs.Entries.Replying.{Answers, takes}
 use Rattle.meaning.proofs.Entries.GoodStays.{Board, step-stays, reply-stays}
 
 -- "Two outcomes that satisfy it are proved equal" ------------------------------------------------------------------
