@@ -1,3 +1,4 @@
+pub mod AsWritten
 pub mod Trees
 pub mod Bytes
 pub mod Typing

@@ -1,4 +1,4 @@
--- A sound record is the bytes of exactly one state, and a state's bytes are sound if the state is good. Assumes nothing.
+-- A sound record is the bytes of exactly one state, which is good, and a good state's bytes are sound. Assumes nothing.
 use Prim.Native.Nat.{ℕ, suc, _+_, _*_, _-_, _≤_, _<_}
 use mathlib.Core.Path.{_≡_, refl, ap, sym, _∙_}
 use mathlib.Core.Bool.{Bool, true, false, cond, false≢true}
@@ -138,37 +138,6 @@ unfolding Each Fits pow256 rawEntry
 entries-fit rows [] next p h k a b = tt
 entries-fit rows (e ∷ calls) next p h k (a, ps) (b, qs) = ((omega arith, (omega (arith, ground-stands rows p (e .type) b), (omega arith, tt))), entries-fit rows calls next p h k ps qs)
 
--- The record of a good state -------------------------------------------------------------------------------------
-
-root : (P : Head → ℕ → Type 0) (t : Tree) → Every P t → P (headOf t) (tyOf t)
-unfolding Every headOf tyOf
-root P (node h u f) (p, d) = p
-
-entries-raw : (calls : List Entry) → map entryOf (map rawEntry calls) ≡ calls
-unfolding entryOf rawEntry
-entries-raw [] = refl
-entries-raw (e ∷ calls) = ap (λ (l : List Entry). e ∷ l) (entries-raw calls)
-
--- the three tables, each with its zeros
-module _ (m : Limits) (s : State) where
-  unfoldable typePart : List ℕ
-  typePart = padded (width typeRow * m .types) (writes typeRow (s .types))
-
-  unfoldable callPart : List ℕ
-  callPart = padded (width entryRow * m .calls) (writes entryRow (map rawEntry (s .calls)))
-
-  unfoldable rowPart : List ℕ
-  rowPart = padded (width termRow * m .rows) (writes termRow (map raw (flat (s .tree))))
-
-  pub record-bytes : AllBytes (recordOf m s)
-  unfolding recordOf typePart callPart rowPart
-  record-bytes =
-      bytes-append (write recordHead (headNumbers s)) (typePart ++ (callPart ++ rowPart)) (bytes-write recordHead (headNumbers s))
-      (bytes-append typePart (callPart ++ rowPart) (bytes-padded _ (writes typeRow (s .types)) (bytes-writes typeRow (s .types)))
-      (bytes-append callPart rowPart
-      (bytes-padded _ (writes entryRow (map rawEntry (s .calls))) (bytes-writes entryRow (map rawEntry (s .calls))))
-      (bytes-padded _ (writes termRow (map raw (flat (s .tree)))) (bytes-writes termRow (map raw (flat (s .tree)))))))
-
 -- "each future in the term is listed with its type", of a row's numbers
 due-row : (calls : List Entry) (r : Row) → futureListed calls (raw r) ≡ true → Due (listed calls) (r .head) (r .type)
 unfolding futureListed raw code wordOf
@@ -201,130 +170,6 @@ entries-sound form next (e ∷ calls) (a, ps) (b, qs) = (both _ _ (lt-ltb (e .nu
 pub size-some : (t : Tree) → 1 ≤ size t
 unfolding size
 size-some (node h u f) = omega arith
-
-module _ (m : Limits) (s : State) (small : Small m) (good : Good m s) where
-  head-fits : Fits recordHead (headNumbers s)
-  unfolding Fits pow256 headNumbers raw
-  head-fits =
-      let t = in-range version (length (s .types)) _ (root (legal (length (s .types))) (s .tree) (good .legalRows)) .typeBelow in
-      (omega arith, (omega arith, (omega arith, (omega arith, (omega arith, (omega arith, (omega arith, (omega arith, (omega arith, (omega (arith, t, good .program), (omega arith, tt)))))))))))
-
-  pub read-head : read recordHead (recordOf m s) ≡ headNumbers s
-  unfolding recordOf
-  read-head = read-write recordHead (headNumbers s) _ head-fits
-
-  pub type-count : typeCount (recordOf m s) ≡ length (s .types)
-  unfolding headNumbers
-  type-count = ap (λ (l : List ℕ). getD l 5 0) read-head
-
-  pub row-count : rowCount (recordOf m s) ≡ size (s .tree)
-  unfolding headNumbers
-  row-count = ap (λ (l : List ℕ). getD l 6 0) read-head
-
-  pub open-count : openCount (recordOf m s) ≡ length (s .calls)
-  unfolding headNumbers
-  open-count = ap (λ (l : List ℕ). getD l 7 0) read-head
-
-  pub next-number : nextNumber (recordOf m s) ≡ s .next
-  unfolding headNumbers
-  next-number = ap (λ (l : List ℕ). getD l 8 0) read-head
-
-  edition-kept : recordEdition (recordOf m s) ≡ version
-  unfolding headNumbers
-  edition-kept = ap (λ (l : List ℕ). getD l 3 0) read-head
-
-  pub program-type : programType (recordOf m s) ≡ s .program
-  unfolding headNumbers
-  program-type = ap (λ (l : List ℕ). getD l 9 0) read-head
-
-  type-length : length (typePart m s) ≡ width typeRow * m .types
-  unfolding typePart
-  type-length = part-length typeRow (m .types) (s .types) (good .typesMany)
-
-  call-length : length (callPart m s) ≡ width entryRow * m .calls
-  unfolding callPart
-  call-length = part-length entryRow (m .calls) (map rawEntry (s .calls)) (rw length-map (good .callsMany))
-
-  row-length : length (rowPart m s) ≡ width termRow * m .rows
-  unfolding rowPart
-  row-length = part-length termRow (m .rows) (map raw (flat (s .tree))) (rw (length-map, length-flat) (good .rowsMany))
-
-  behind-head : drop typesAt (recordOf m s) ≡ typePart m s ++ (callPart m s ++ rowPart m s)
-  unfolding recordOf typePart callPart rowPart
-  behind-head = drop-at (write recordHead (headNumbers s)) _ typesAt (length-write recordHead (headNumbers s))
-
-  behind-types : drop (callsAt m) (recordOf m s) ≡ callPart m s ++ rowPart m s
-  unfolding callsAt
-  behind-types = sym (drop-drop (width typeRow * m .types) typesAt (recordOf m s)) ∙ ap (drop (width typeRow * m .types)) behind-head ∙ drop-at (typePart m s) (callPart m s ++ rowPart m s) _ type-length
-
-  behind-calls : drop (rowsAt m) (recordOf m s) ≡ rowPart m s
-  unfolding rowsAt
-  behind-calls = sym (drop-drop (width entryRow * m .calls) (callsAt m) (recordOf m s)) ∙ ap (drop (width entryRow * m .calls)) behind-types ∙ drop-at (callPart m s) (rowPart m s) _ call-length
-
-  pub types-in : typesIn (recordOf m s) ≡ s .types
-  unfolding typesIn typePart
-  types-in = rw (type-count, behind-head) (part-read typeRow (m .types) (s .types) _ (good .typesWide))
-
-  pub entries-in : entriesIn m (recordOf m s) ≡ map rawEntry (s .calls)
-  unfolding entriesIn callPart
-  entries-in =
-      rw (open-count, behind-types, ← (length-map (s .calls) rawEntry))
-      (part-read entryRow (m .calls) (map rawEntry (s .calls)) _ (entries-fit (s .types) (s .calls) (s .next) (good .typesPass) (omega arith) (omega arith) (good .callsBelow) (good .callsGround)))
-
-  pub rows-in : rowsIn m (recordOf m s) ≡ map raw (flat (s .tree))
-  unfolding rowsIn rowPart
-  rows-in =
-      let l = map raw (flat (s .tree)) in
-      let e : size (s .tree) ≡ length l = rw (length-map, length-flat) refl in
-      rw (row-count, behind-calls, e, ← (append-nil (padded (width termRow * m .rows) (writes termRow l))))
-      (part-read termRow (m .rows) l [] (rows-fit (length (s .types)) (flat (s .tree)) (omega arith) (every-rows _ (s .tree) (good .legalRows))))
-
-  calls-in : stateOf m (recordOf m s) .calls ≡ s .calls
-  unfolding stateOf
-  calls-in = ap (map entryOf) entries-in ∙ entries-raw (s .calls)
-
-  tree-in : stateOf m (recordOf m s) .tree ≡ s .tree
-  unfolding stateOf
-  tree-in = ap (λ (l : List (List ℕ)). treeOf (map rowOf l)) rows-in ∙ ap treeOf (rows-raw (flat (s .tree))) ∙ tree-of-flat (s .tree)
-
-  pub state-record : stateOf m (recordOf m s) ≡ s
-  unfolding stateOf
-  state-record = λ i. record { types = types-in i; tree = tree-in i; calls = calls-in i; next = next-number i; program = program-type i }
-
-  pub record-length : length (recordOf m s) ≡ recordBytes m
-  unfolding recordOf recordBytes rowsAt callsAt typePart callPart rowPart
-  record-length = rw (length-append, length-append, length-append, length-write, type-length, call-length, row-length) (omega arith)
-
-  head-sound : headSound m (recordOf m s) ≡ true
-  unfolding headSound headNumbers
-  head-sound =
-      rw read-head
-      (both _ _ (numbers-same recordMark)
-      (both _ _ (within-of 1 (m .types) (length (s .types)) (good .typesSome) (good .typesMany))
-      (both _ _ (within-of 1 (m .rows) (size (s .tree)) (size-some (s .tree)) (good .rowsMany))
-      (both _ _ (le-leb (length (s .calls)) (m .calls) (good .callsMany))
-      (both _ _ (within-of 1 (suc (m .lastNumber)) (s .next) (good .nextLow) (good .nextHigh)) (eq-same 0))))))
-
-  space-sound : spaceSound m (recordOf m s) ≡ true
-  unfolding spaceSound typePart callPart rowPart
-  space-sound =
-      let l = map raw (flat (s .tree)) in
-      let e : size (s .tree) ≡ length l = rw (length-map, length-flat) refl in
-      both _ _ (rw type-count (part-unused typeRow (m .types) (s .types) (recordOf m s) _ typesAt behind-head))
-      (both _ _ (rw (open-count, ← (length-map (s .calls) rawEntry)) (part-unused entryRow (m .calls) (map rawEntry (s .calls)) (recordOf m s) _ (callsAt m) behind-types))
-      (rw (row-count, e) (part-unused termRow (m .rows) l (recordOf m s) [] (rowsAt m) (behind-calls ∙ sym (append-nil _)))))
-
-  pub sound-record : sound m (recordOf m s) ≡ true
-  unfolding sound typesSound shapeSound termSound callsSound futuresSound programSound nothing isWhole
-  sound-record =
-      both _ _ head-sound
-      (both _ _ space-sound
-      (both _ _ (rw (edition-kept, types-in, good .typesPass) refl)
-      (both _ _ (rw (edition-kept, type-count, rows-in, whole-of (length (s .types)) (s .tree) (good .legalRows)) refl)
-      (both _ _ (rw (types-in, tree-in, typed-of (formOf (s .types)) empty (s .tree) (good .typed)) refl)
-      (both _ _ (both _ _ (rw calls-in (good .callsRise)) (rw (types-in, next-number, entries-in, all-pass (entrySound (formOf (s .types)) (s .next)) _ (entries-sound (formOf (s .types)) (s .next) (s .calls) (good .callsBelow) (good .callsGround))) refl))
-      (both _ _ (rw (calls-in, rows-in, all-pass (futureListed (s .calls)) _ (rows-due (s .calls) (flat (s .tree)) (every-rows _ (s .tree) (good .listed)))) refl)
-      (rw (tree-in, program-type) (eq-eqb _ _ (good .program)))))))))
 
 -- The state of a sound record ------------------------------------------------------------------------------------
 
@@ -498,6 +343,161 @@ module _ (m : Limits) (b : List ℕ) (small : Small m) (long : length b ≡ reco
       (ap (λ (t : List ℕ). take typesAt b ++ (take (width typeRow * m .types) (drop typesAt b) ++ t)) (joins (callsAt m) (width entryRow * m .calls) b)
       ∙ ap (λ (t : List ℕ). take typesAt b ++ t) (joins typesAt (width typeRow * m .types) b)
       ∙ take-append-drop typesAt b)
+
+-- The record of a good state -------------------------------------------------------------------------------------
+
+root : (P : Head → ℕ → Type 0) (t : Tree) → Every P t → P (headOf t) (tyOf t)
+unfolding Every headOf tyOf
+root P (node h u f) (p, d) = p
+
+entries-raw : (calls : List Entry) → map entryOf (map rawEntry calls) ≡ calls
+unfolding entryOf rawEntry
+entries-raw [] = refl
+entries-raw (e ∷ calls) = ap (λ (l : List Entry). e ∷ l) (entries-raw calls)
+
+-- the three tables, each with its zeros
+module _ (m : Limits) (s : State) where
+  unfoldable typePart : List ℕ
+  typePart = padded (width typeRow * m .types) (writes typeRow (s .types))
+
+  unfoldable callPart : List ℕ
+  callPart = padded (width entryRow * m .calls) (writes entryRow (map rawEntry (s .calls)))
+
+  unfoldable rowPart : List ℕ
+  rowPart = padded (width termRow * m .rows) (writes termRow (map raw (flat (s .tree))))
+
+  pub record-bytes : AllBytes (recordOf m s)
+  unfolding recordOf typePart callPart rowPart
+  record-bytes =
+      bytes-append (write recordHead (headNumbers s)) (typePart ++ (callPart ++ rowPart)) (bytes-write recordHead (headNumbers s))
+      (bytes-append typePart (callPart ++ rowPart) (bytes-padded _ (writes typeRow (s .types)) (bytes-writes typeRow (s .types)))
+      (bytes-append callPart rowPart
+      (bytes-padded _ (writes entryRow (map rawEntry (s .calls))) (bytes-writes entryRow (map rawEntry (s .calls))))
+      (bytes-padded _ (writes termRow (map raw (flat (s .tree)))) (bytes-writes termRow (map raw (flat (s .tree)))))))
+
+module _ (m : Limits) (s : State) (small : Small m) (good : Good m s) where
+  head-fits : Fits recordHead (headNumbers s)
+  unfolding Fits pow256 headNumbers raw
+  head-fits =
+      let t = in-range version (length (s .types)) _ (root (legal (length (s .types))) (s .tree) (good .legalRows)) .typeBelow in
+      (omega arith, (omega arith, (omega arith, (omega arith, (omega arith, (omega arith, (omega arith, (omega arith, (omega arith, (omega (arith, t, good .program), (omega arith, tt)))))))))))
+
+  pub read-head : read recordHead (recordOf m s) ≡ headNumbers s
+  unfolding recordOf
+  read-head = read-write recordHead (headNumbers s) _ head-fits
+
+  pub type-count : typeCount (recordOf m s) ≡ length (s .types)
+  unfolding headNumbers
+  type-count = ap (λ (l : List ℕ). getD l 5 0) read-head
+
+  pub row-count : rowCount (recordOf m s) ≡ size (s .tree)
+  unfolding headNumbers
+  row-count = ap (λ (l : List ℕ). getD l 6 0) read-head
+
+  pub open-count : openCount (recordOf m s) ≡ length (s .calls)
+  unfolding headNumbers
+  open-count = ap (λ (l : List ℕ). getD l 7 0) read-head
+
+  pub next-number : nextNumber (recordOf m s) ≡ s .next
+  unfolding headNumbers
+  next-number = ap (λ (l : List ℕ). getD l 8 0) read-head
+
+  edition-kept : recordEdition (recordOf m s) ≡ version
+  unfolding headNumbers
+  edition-kept = ap (λ (l : List ℕ). getD l 3 0) read-head
+
+  pub program-type : programType (recordOf m s) ≡ s .program
+  unfolding headNumbers
+  program-type = ap (λ (l : List ℕ). getD l 9 0) read-head
+
+  type-length : length (typePart m s) ≡ width typeRow * m .types
+  unfolding typePart
+  type-length = part-length typeRow (m .types) (s .types) (good .typesMany)
+
+  call-length : length (callPart m s) ≡ width entryRow * m .calls
+  unfolding callPart
+  call-length = part-length entryRow (m .calls) (map rawEntry (s .calls)) (rw length-map (good .callsMany))
+
+  row-length : length (rowPart m s) ≡ width termRow * m .rows
+  unfolding rowPart
+  row-length = part-length termRow (m .rows) (map raw (flat (s .tree))) (rw (length-map, length-flat) (good .rowsMany))
+
+  behind-head : drop typesAt (recordOf m s) ≡ typePart m s ++ (callPart m s ++ rowPart m s)
+  unfolding recordOf typePart callPart rowPart
+  behind-head = drop-at (write recordHead (headNumbers s)) _ typesAt (length-write recordHead (headNumbers s))
+
+  behind-types : drop (callsAt m) (recordOf m s) ≡ callPart m s ++ rowPart m s
+  unfolding callsAt
+  behind-types = sym (drop-drop (width typeRow * m .types) typesAt (recordOf m s)) ∙ ap (drop (width typeRow * m .types)) behind-head ∙ drop-at (typePart m s) (callPart m s ++ rowPart m s) _ type-length
+
+  behind-calls : drop (rowsAt m) (recordOf m s) ≡ rowPart m s
+  unfolding rowsAt
+  behind-calls = sym (drop-drop (width entryRow * m .calls) (callsAt m) (recordOf m s)) ∙ ap (drop (width entryRow * m .calls)) behind-types ∙ drop-at (callPart m s) (rowPart m s) _ call-length
+
+  pub types-in : typesIn (recordOf m s) ≡ s .types
+  unfolding typesIn typePart
+  types-in = rw (type-count, behind-head) (part-read typeRow (m .types) (s .types) _ (good .typesWide))
+
+  pub entries-in : entriesIn m (recordOf m s) ≡ map rawEntry (s .calls)
+  unfolding entriesIn callPart
+  entries-in =
+      rw (open-count, behind-types, ← (length-map (s .calls) rawEntry))
+      (part-read entryRow (m .calls) (map rawEntry (s .calls)) _ (entries-fit (s .types) (s .calls) (s .next) (good .typesPass) (omega arith) (omega arith) (good .callsBelow) (good .callsGround)))
+
+  pub rows-in : rowsIn m (recordOf m s) ≡ map raw (flat (s .tree))
+  unfolding rowsIn rowPart
+  rows-in =
+      let l = map raw (flat (s .tree)) in
+      let e : size (s .tree) ≡ length l = rw (length-map, length-flat) refl in
+      rw (row-count, behind-calls, e, ← (append-nil (padded (width termRow * m .rows) (writes termRow l))))
+      (part-read termRow (m .rows) l [] (rows-fit (length (s .types)) (flat (s .tree)) (omega arith) (every-rows _ (s .tree) (good .legalRows))))
+
+  calls-in : stateOf m (recordOf m s) .calls ≡ s .calls
+  unfolding stateOf
+  calls-in = ap (map entryOf) entries-in ∙ entries-raw (s .calls)
+
+  tree-in : stateOf m (recordOf m s) .tree ≡ s .tree
+  unfolding stateOf
+  tree-in = ap (λ (l : List (List ℕ)). treeOf (map rowOf l)) rows-in ∙ ap treeOf (rows-raw (flat (s .tree))) ∙ tree-of-flat (s .tree)
+
+  pub state-record : stateOf m (recordOf m s) ≡ s
+  unfolding stateOf
+  state-record = λ i. record { types = types-in i; tree = tree-in i; calls = calls-in i; next = next-number i; program = program-type i }
+
+  pub record-length : length (recordOf m s) ≡ recordBytes m
+  unfolding recordOf recordBytes rowsAt callsAt typePart callPart rowPart
+  record-length = rw (length-append, length-append, length-append, length-write, type-length, call-length, row-length) (omega arith)
+
+  head-sound : headSound m (recordOf m s) ≡ true
+  unfolding headSound headNumbers
+  head-sound =
+      rw read-head
+      (both _ _ (numbers-same recordMark)
+      (both _ _ (within-of 1 (m .types) (length (s .types)) (good .typesSome) (good .typesMany))
+      (both _ _ (within-of 1 (m .rows) (size (s .tree)) (size-some (s .tree)) (good .rowsMany))
+      (both _ _ (le-leb (length (s .calls)) (m .calls) (good .callsMany))
+      (both _ _ (within-of 1 (suc (m .lastNumber)) (s .next) (good .nextLow) (good .nextHigh)) (eq-same 0))))))
+
+  space-sound : spaceSound m (recordOf m s) ≡ true
+  unfolding spaceSound typePart callPart rowPart
+  space-sound =
+      let l = map raw (flat (s .tree)) in
+      let e : size (s .tree) ≡ length l = rw (length-map, length-flat) refl in
+      both _ _ (rw type-count (part-unused typeRow (m .types) (s .types) (recordOf m s) _ typesAt behind-head))
+      (both _ _ (rw (open-count, ← (length-map (s .calls) rawEntry)) (part-unused entryRow (m .calls) (map rawEntry (s .calls)) (recordOf m s) _ (callsAt m) behind-types))
+      (rw (row-count, e) (part-unused termRow (m .rows) l (recordOf m s) [] (rowsAt m) (behind-calls ∙ sym (append-nil _)))))
+
+  pub sound-record : sound m (recordOf m s) ≡ true
+  unfolding sound typesSound shapeSound termSound callsSound futuresSound programSound nothing isWhole
+  sound-record =
+      both _ _ head-sound
+      (both _ _ space-sound
+      (both _ _ (rw (edition-kept, types-in, good .typesPass) refl)
+      (both _ _ (rw (edition-kept, type-count, rows-in, whole-of (length (s .types)) (s .tree) (good .legalRows)) refl)
+      (both _ _ (rw (types-in, tree-in, typed-of (formOf (s .types)) empty (s .tree) (good .typed)) refl)
+      (both _ _ (both _ _ (rw calls-in (good .callsRise)) (rw (types-in, next-number, entries-in, all-pass (entrySound (formOf (s .types)) (s .next)) _ (entries-sound (formOf (s .types)) (s .next) (s .calls) (good .callsBelow) (good .callsGround))) refl))
+      (both _ _ (rw (calls-in, rows-in, all-pass (futureListed (s .calls)) _ (rows-due (s .calls) (flat (s .tree)) (every-rows _ (s .tree) (good .listed)))) refl)
+      (rw (tree-in, program-type) (eq-eqb _ _ (good .program)))))))))
 
 -- a sound record is the bytes of exactly one state
 pub sound-one : (m : Limits) (b : List ℕ) → Small m → length b ≡ recordBytes m → AllBytes b → sound m b ≡ true

@@ -54,6 +54,23 @@ length-with es e = length-append es (e ∷ []) ∙ omega arith
 
 -- Taking one out -------------------------------------------------------------------------------------------------
 
+-- the number taken out is gone, the list being in rising order
+above : (es : List Entry) (low k : ℕ) → k ≤ low → rises low es ≡ true → listed es k ≡ none
+unfolding rises listed
+above [] low k h r = refl
+above (x ∷ es) low k h r =
+    let p = ltb-true low (x .number) (left _ _ r) in
+    rw (ne-eqb (x .number) k (λ e. omega arith)) (above es (x .number) k (omega arith) (right _ _ r))
+
+pub gone : (k : ℕ) (es : List Entry) (low : ℕ) → rises low es ≡ true → listed (without k es) k ≡ none
+unfolding rises listed without
+gone k [] low r = refl
+gone k (x ∷ es) low r = go (eqb (x .number) k) refl (gone k es (x .number) (right _ _ r))
+  where
+    go : (b : Bool) → eqb (x .number) k ≡ b → listed (without k es) k ≡ none → listed (cond b es (x ∷ without k es)) k ≡ none
+    go true q ih = let e = eqb-true (x .number) k q in above es (x .number) k (omega arith) (right _ _ r)
+    go false q ih = rw q ih
+
 pub each-without : (P : Entry → Type 0) (k : ℕ) (es : List Entry) → Each P es → Each P (without k es)
 unfolding without Each
 each-without P k [] p = tt
@@ -95,23 +112,6 @@ listed-without k j (x ∷ es) n = go (eqb (x .number) k) refl (listed-without k 
     go : (b : Bool) → eqb (x .number) k ≡ b → listed (without k es) j ≡ listed es j → listed (cond b es (x ∷ without k es)) j ≡ cond (eqb (x .number) j) (some (x .type)) (listed es j)
     go true q ih = sym (rw (ne-eqb (x .number) j (λ e. n (sym e ∙ eqb-true (x .number) k q))) refl)
     go false q ih = ap (λ (o : Option ℕ). cond (eqb (x .number) j) (some (x .type)) o) ih
-
--- and the one taken out is gone, the list being in rising order
-above : (es : List Entry) (low k : ℕ) → k ≤ low → rises low es ≡ true → listed es k ≡ none
-unfolding rises listed
-above [] low k h r = refl
-above (x ∷ es) low k h r =
-    let p = ltb-true low (x .number) (left _ _ r) in
-    rw (ne-eqb (x .number) k (λ e. omega arith)) (above es (x .number) k (omega arith) (right _ _ r))
-
-pub gone : (k : ℕ) (es : List Entry) (low : ℕ) → rises low es ≡ true → listed (without k es) k ≡ none
-unfolding rises listed without
-gone k [] low r = refl
-gone k (x ∷ es) low r = go (eqb (x .number) k) refl (gone k es (x .number) (right _ _ r))
-  where
-    go : (b : Bool) → eqb (x .number) k ≡ b → listed (without k es) k ≡ none → listed (cond b es (x ∷ without k es)) k ≡ none
-    go true q ih = let e = eqb-true (x .number) k q in above es (x .number) k (omega arith) (right _ _ r)
-    go false q ih = rw q ih
 
 some-same : (a b : ℕ) → _≡_ {A = Option ℕ} (some a) (some b) → a ≡ b
 some-same a b e = cc
