@@ -122,6 +122,15 @@ pub path-one : (m : Limits) (budget : ℕ) (s : State) (us vs : List State) (a c
 path-one m zero s us vs a c l k p q = turn-none m s (try m s) us vs a c l k (turn m p) (turn m q)
 path-one m (suc b) s us vs a c l k p q = turn-one m b s (try m s) us vs a c l k (λ u us vs. path-one m b u us vs a c l k) (turn m p) (turn m q)
 
+-- so where VALUE, WAITING, HELD, NUMBERS or ROOM holds, a run goes no further
+pub path-at-stop : (m : Limits) (budget : ℕ) (s : State) (x : Answer) (us : List State) (a : Answer) (l : List ℕ) → Stops m s x → Path m budget s us a l → (us ≡ []) × (a ≡ x) × (l ≡ [])
+path-at-stop m budget s x us a l h p = path-one m budget s us [] a x l [] p (stops h)
+
+-- and it stops at a send
+pub path-at-send : (m : Limits) (budget : ℕ) (s : State) (c : Call) (u : State) (us : List State) (a : Answer) (l : List ℕ) → Passes m s (some c) u → Path m (suc budget) s us a l
+    → (us ≡ u ∷ []) × (a ≡ Sent (s .next)) × (l ≡ letterOf (s .next) c)
+path-at-send m budget s c u us a l h p = path-one m (suc budget) s us (u ∷ []) a (Sent (s .next)) l (letterOf (s .next) c) p (calls h)
+
 -- so answer, steps, and every byte of record and work buffer are settled, with the states on the way
 pub walk-one : (m : Limits) (kept : List ℕ) (budget : ℕ) (a c : Answer) (n j : ℕ) (x y z t : List ℕ) → (v : Walk m kept budget a n x y) → (w : Walk m kept budget c j z t)
     → (v .states ≡ w .states) × (a ≡ c) × (n ≡ j) × (x ≡ z) × (y ≡ t)
