@@ -5,10 +5,11 @@
 -- future has the type it states" (13's ground type is asked of the open list); a written function stands below fix (20). Assumes nothing.
 use Prim.Native.Nat.{ℕ, zero, suc, _≤_}
 use mathlib.Core.Path.{_≡_}
-use mathlib.Core.Bool.{Bool, true, cond}
+use mathlib.Core.Bool.{Bool, true, false, cond}
 use mathlib.Core.List.{List, [], _∷_}
 use mathlib.Core.Option.{Option, none, some}
 use lib.Dec.{eqb}
+use Rattle.meaning.specs.Bytes.{_∧ᵇ_}
 use Rattle.meaning.specs.Types.{Base, Str, File, Truth, Side, ntv, frn, Param, Form, absent, base, fList, fTuple, fFun, low, rest}
 use Rattle.meaning.specs.Terms.{str, file, truth, Head, lit, var, lambda, foreign, apply, future, ite, fix, nil, cons, isnil, zip, tuple, project, lproject, bind, arity, Tree, Forest, node, end, more}
 
@@ -30,6 +31,18 @@ mutual
   pub data Args : Type 0 where
     noArg : Args
     arg : ℕ → Ty → Args → Args
+
+-- the paper's U, ground types: Str, File and Bool, lists and tuples of such
+unfoldable mutual
+  pub isGround : Ty → Bool
+  isGround (tBase b) = true
+  isGround (tList T) = isGround T
+  isGround (tTuple Ts) = allGround Ts
+  isGround (tFun s ps T) = false
+
+  pub allGround : Elems → Bool
+  allGround noElem = true
+  allGround (elem T Ts) = isGround T ∧ᵇ allGround Ts
 
 -- what a type's number stands for, where q says what the numbers of its parts stand for
 unfoldable pub elemsFrom : (ℕ → Ty) → List ℕ → Elems
@@ -113,7 +126,10 @@ module _ (stands : ℕ → Ty) where
           → Has (Γ ⊹ ps) b T
           → ByRule Γ lambda (more b end) (tFun ntv ps T)
       -- 10
-      rForeign : {Γ ps : Args} {w : ℕ} {T : Ty} → ByRule Γ (foreign w) end (tFun frn ps T)
+      rForeign : {Γ ps : Args} {w : ℕ} {T : Ty}
+          → allGround (argTypes ps) ≡ true
+          → isGround T ≡ true
+          → ByRule Γ (foreign w) end (tFun frn ps T)
       -- 11
       rApply : {Γ ps : Args} {n : ℕ} {s : Side} {c : Tree} {args : Forest n} {T : Ty}
           → Has Γ c (tFun s ps T)

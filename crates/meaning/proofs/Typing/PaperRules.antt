@@ -15,7 +15,7 @@ use Rattle.meaning.proofs.Trees.Tests.{left, right, both, none-some}
 use Rattle.meaning.proofs.Trees.ByKind.{lambda-is, below-lit}
 use Rattle.meaning.proofs.Trees.EachRow.{Fact, Every, Everys}
 use Rattle.meaning.proofs.Bytes.TypeTables.{Promises, below-if, below-of}
-use Rattle.meaning.proofs.Typing.TypeTrees.{PartsBelow, parts-below, type-eq, is-base, is-list, is-tuple, is-fun, same-elems, same-args}
+use Rattle.meaning.proofs.Typing.TypeTrees.{PartsBelow, parts-below, type-eq, ground-tree, ground-trees, is-base, is-list, is-tuple, is-fun, same-elems, same-args}
 
 -- what is asked of each row: its type stands in a table of so many, and a zip's mask is not empty
 abbrev pub InTable : ℕ → Fact
@@ -158,7 +158,11 @@ module _ (form : ℕ → Form) (count : ℕ) (good : Promises form count) where
   node-has Γ Δ (lit (truth b)) u end a i r w d = rw (told u _ r) rTruth
   node-has Γ Δ (var x) u end a i r w d = rVar (alike-type stands (a x) u r)
   node-has Γ Δ lambda u (more b end) a i (ps, e) w (h, _) = rw (told u _ e) (rNative (rw (ap params e) at h))
-  node-has Γ Δ (foreign x) u end a i (ps, r, e) w d = rw (told u _ e) rForeign
+  node-has Γ Δ (foreign x) u end a i (ps, r, e) w d =
+      let (g, gs) = good .call e in
+      let l : every (below count) (types ps) ≡ true = every-up u count (omega (arith, i .0)) (types ps) (good .args e) in
+      rw (told u _ e)
+      (rForeign (rw (arg-types stands ps) at (ground-trees form count good (types ps) l gs)) (sym (ground-tree form count good r (omega (arith, i .0, good .result e))) ∙ g))
   node-has Γ Δ (apply n) u (more c args) a i (s, ps, e, q) w (h, d) =
       rApply (rw (told (tyOf c) _ e) at h) (rw (q, arg-types stands ps) at (all-has Δ args d))
   node-has Γ Δ (future k) u end a i r w d = rFuture
@@ -305,7 +309,7 @@ module _ (form : ℕ → Form) (count : ℕ) (good : Promises form count) where
           let (k, q) = has-typed h (Γ ⹁ t .args) (subst (λ (z : Args). Agrees stands count (Γ ⹁ t .args) (Δ ⊹ z)) (t .args-are) (agrees-more stands count Γ Δ (t .args) (t .args-below) a)) ib in
           let r : t .result ≡ tyOf b = one (t .result) (tyOf b) (t .result-below) (ty-below b ib) (t .result-is ∙ sym q) in
           ((t .args, t .of-form ∙ ap (fFun ntv (t .args)) r), refl, (rw (t .of-form) k, tt))
-      rule-typed (rForeign {ps = Ps} {T}) Γ u a i e d = let t = fun-told u _ Ps T i e in ((t .args, t .result, t .of-form), refl, tt)
+      rule-typed (rForeign {ps = Ps} {T} g gs) Γ u a i e d = let t = fun-told u _ Ps T i e in ((t .args, t .result, t .of-form), refl, tt)
       rule-typed (rApply {ps = Ps} {s} {c} {args} {T} h hs) Γ u a i e (ic, ia) =
           let (k, q) = has-typed h Γ a ic in
           let t = fun-told (tyOf c) s Ps T (ty-below c ic) q in

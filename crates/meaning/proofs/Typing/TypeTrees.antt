@@ -2,18 +2,21 @@
 -- Assumes nothing.
 use Prim.Native.Nat.{ℕ, zero, suc, _≤_, _<_}
 use mathlib.Core.Path.{_≡_, refl, ap, sym, _∙_}
-use mathlib.Core.Bool.{true}
+use mathlib.Core.Bool.{Bool, true}
 use mathlib.Core.Logic.{_↔_}
 use mathlib.Core.List.{List, [], _∷_}
 use mathlib.Core.Option.{none}
 use native.Mathlib.Omega.{arith}
+use borrow.Author.Tests.{lt-ltb}
+use lib.Dec.{ltb}
 use lib.ListN.{length}
-use Rattle.meaning.specs.Types.{Base, Side, Param, Form, absent, base, fList, fTuple, fFun, types, every, below, formOf, badType}
-use Rattle.meaning.specs.Paper.{Ty, tBase, tList, tTuple, tFun, Elems, noElem, elem, Args, noArg, arg, elemsFrom, argsFrom, typeFrom, typeBelow, typeOf}
+use Rattle.meaning.specs.Bytes.{_∧ᵇ_}
+use Rattle.meaning.specs.Types.{Base, Side, Param, Form, absent, base, fList, fTuple, fFun, types, every, below, groundForm, ground, formOf, badType}
+use Rattle.meaning.specs.Paper.{Ty, tBase, tList, tTuple, tFun, Elems, noElem, elem, Args, noArg, arg, isGround, allGround, elemsFrom, argsFrom, typeFrom, typeBelow, typeOf}
 use Rattle.meaning.specs.Records.{version}
-use Rattle.meaning.proofs.Trees.Tests.{left, right}
+use Rattle.meaning.proofs.Trees.Tests.{left, right, both}
 use Rattle.meaning.proofs.Bytes.Layouts.{Wide}
-use Rattle.meaning.proofs.Bytes.TypeTables.{Promises, promised, below-if}
+use Rattle.meaning.proofs.Bytes.TypeTables.{Promises, promised, below-if, ground-eq}
 use Rattle.meaning.proofs.Bytes.TypeRows.{equal-forms}
 
 -- the parts of a form are below a number
@@ -44,6 +47,24 @@ module _ (p q : ℕ → Ty) (t : ℕ) (same : (n : ℕ) → n < t → p n ≡ q 
   types-agree (fList e) h = ap tList (same e h)
   types-agree (fTuple ts) h = ap tTuple (elems-agree ts h)
   types-agree (fFun s ps r) (h, k) = cc (args-agree ps h, same r k)
+
+-- of types that are ground together
+module _ (g : ℕ → Bool) (q : ℕ → Ty) (t : ℕ) (same : (n : ℕ) → n < t → g n ≡ isGround (q n)) where
+  all-agree : (ts : List ℕ) → every (below t) ts ≡ true → every (λ p. ltb p t ∧ᵇ g p) ts ≡ allGround (elemsFrom q ts)
+  unfolding elemsFrom every isGround _∧ᵇ_
+  all-agree [] h = refl
+  all-agree (n ∷ ts) h =
+      let l : n < t = below-if t n (left (below t n) (every (below t) ts) h) in
+      let k = all-agree ts (right (below t n) (every (below t) ts) h) in
+      rw (lt-ltb n t l, same n l, k) refl
+
+  ground-agree : (f : Form) → (f ≡ absent → ⊥) → PartsBelow t f → groundForm (λ p. ltb p t ∧ᵇ g p) f ≡ isGround (typeFrom q f)
+  unfolding groundForm typeFrom isGround PartsBelow _∧ᵇ_
+  ground-agree absent k h = absurd (k refl)
+  ground-agree (base b) k h = refl
+  ground-agree (fList e) k h = rw (lt-ltb e t h, same e h) refl
+  ground-agree (fTuple ts) k h = all-agree ts h
+  ground-agree (fFun s ps r) k h = refl
 
 -- Trees back to forms --------------------------------------------------------------------------------------------
 
@@ -142,6 +163,23 @@ module _ (form : ℕ → Form) (count : ℕ) (good : Promises form count) where
   unfolding typeOf typeBelow
   type-eq t =
       types-agree (typeBelow form t) (λ n. typeBelow form (suc n) n) t (λ n l. type-deep t (suc n) n l (omega arith)) (form t) (parts-below t (form t) refl)
+
+  -- a type is ground by the table exactly if it is as a tree
+  ground-deep : (d t : ℕ) → t < d → t < count → ground form t ≡ isGround (typeOf form t)
+  ground-deep zero t h k = absurd (omega arith)
+  ground-deep (suc d) t h k =
+      ground-eq form t
+      ∙ ground-agree (ground form) (typeOf form) t (λ n l. ground-deep d n (omega arith) (omega arith)) (form t) (λ z. omega (arith, good .at t z)) (parts-below t (form t) refl)
+      ∙ ap isGround (sym (type-eq t))
+
+  pub ground-tree : (t : ℕ) → t < count → ground form t ≡ isGround (typeOf form t)
+  ground-tree t h = ground-deep (suc t) t (omega arith) h
+
+  pub ground-trees : (ts : List ℕ) → every (below count) ts ≡ true → every (ground form) ts ≡ true → allGround (elemsFrom (typeOf form) ts) ≡ true
+  unfolding every isGround elemsFrom
+  ground-trees [] h g = refl
+  ground-trees (t ∷ ts) h g =
+      both _ _ (sym (ground-tree t (below-if count t (left _ _ h))) ∙ left _ _ g) (ground-trees ts (right _ _ h) (right _ _ g))
 
   module _ (one : (t u : ℕ) → t < count → u < count → form t ≡ form u → t ≡ u) where
     one-below : (d t u : ℕ) → t < d → t < count → u < count → typeOf form t ≡ typeOf form u → t ≡ u
