@@ -1,0 +1,13 @@
+pub mod OneRow
+pub mod ByNumber
+pub mod Over
+pub mod Frames
+pub mod Tables
+pub mod Entries
+pub mod Sights
+pub mod Turns
+pub mod Changes
+pub mod Ends
+pub mod Fits
+pub mod Moves
+pub mod Resumed
