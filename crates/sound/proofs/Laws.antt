@@ -1,0 +1,91 @@
+-- Tests joined, tests of every element, and a sum that is zero. Assumes nothing.
+use Prim.Native.Nat.{ℕ, zero, suc, _+_, _<_, _≤_}
+use mathlib.Core.Path.{_≡_, refl, ap, sym, _∙_}
+use mathlib.Core.Bool.{Bool, true, false, cond}
+use mathlib.Core.List.{List, [], _∷_, _++_}
+use mathlib.Core.Option.{Option, none, some}
+use native.Mathlib.Omega.{arith}
+use native.Mathlib.Numerals.{add-one}
+use borrow.Author.Tests.{eq-eqb, ne-eqb}
+use lib.Dec.{eqb}
+use lib.ListN.{length, getD, take, drop, drop-of-length-le}
+use lib.Seq.{drop-cons, take-suc, take-all}
+use Rattle.meaning.specs.Bytes.{_∧ᵇ_, zeros}
+use Rattle.meaning.specs.Terms.{kindNo, typeNo, wordNo}
+use Rattle.meaning.specs.Typing.{given}
+use Rattle.meaning.specs.Records.{Entry, nothing, firstNot, listed, futureListed}
+
+-- Tests joined ---------------------------------------------------------------------------------------------------
+
+pub fails : (a b : Bool) → a ≡ false → (a ∧ᵇ b) ≡ false
+unfolding _∧ᵇ_
+fails a b e = rw e refl
+
+pub passes : (a b : Bool) → a ≡ true → (a ∧ᵇ b) ≡ b
+unfolding _∧ᵇ_
+passes a b e = rw e refl
+
+-- A test of every element ----------------------------------------------------------------------------------------
+
+module _ {A : Type 0} (p : A → Bool) where
+  pub every-more : (x : A) (xs : List A) → nothing (firstNot p (x ∷ xs)) ≡ (p x ∧ᵇ nothing (firstNot p xs))
+  unfolding nothing firstNot _∧ᵇ_
+  every-more x xs = go (p x) (firstNot p xs)
+    where
+      go : (b : Bool) (o : Option ℕ) → nothing (cond b (elim o [ none ↦ none | some i ↦ some (suc i) ]) (some 0)) ≡ (b ∧ᵇ nothing o)
+      go true none = refl
+      go true (some i) = refl
+      go false o = refl
+
+  module _ (l : List A) (i : ℕ) where
+    module _ (d x : A) (h : i < length l) (e : getD l i d ≡ x) where
+      here : drop i l ≡ x ∷ drop (i + 1) l
+      here = rw (add-one, drop-cons l i d, e)
+
+      pub every-on : p x ≡ true → nothing (firstNot p (drop i l)) ≡ nothing (firstNot p (drop (i + 1) l))
+      every-on q = rw here (every-more x (drop (i + 1) l) ∙ passes (p x) _ q)
+
+      pub every-not : p x ≡ false → nothing (firstNot p (drop i l)) ≡ false
+      every-not q = rw here (every-more x (drop (i + 1) l) ∙ fails (p x) _ q)
+
+    pub every-end : length l ≤ i → nothing (firstNot p (drop i l)) ≡ true
+    unfolding nothing firstNot
+    every-end h = rw (drop-of-length-le l h)
+
+-- Futures --------------------------------------------------------------------------------------------------------
+
+module _ (calls : List Entry) (r : List ℕ) where
+  pub other-kind : (kindNo r ≡ 9 → ⊥) → futureListed calls r ≡ true
+  unfolding futureListed
+  other-kind n = rw (ne-eqb _ _ n)
+
+  pub a-future : kindNo r ≡ 9 → futureListed calls r ≡ given (listed calls (wordNo r)) (typeNo r)
+  unfolding futureListed
+  a-future n = rw (eq-eqb _ _ n)
+
+-- A sum of bytes -------------------------------------------------------------------------------------------------
+
+pub total : List ℕ → ℕ
+total [] = 0
+total (b ∷ s) = b + total s
+
+total-more : (s : List ℕ) (x : ℕ) → total (s ++ (x ∷ [])) ≡ total s + x
+unfolding total
+total-more [] x = omega arith
+total-more (b ∷ s) x = omega (arith, total-more s x)
+
+pub sum-none : (s : List ℕ) → 0 ≡ total (take 0 s)
+unfolding total
+sum-none s = refl
+
+pub sum-more : (s : List ℕ) (i x : ℕ) → i < length s → x ≡ total (take i s) → x + getD s i 0 ≡ total (take (i + 1) s)
+sum-more s i x h e = sym (ap total (rw add-one (take-suc s i 0 h)) ∙ total-more (take i s) (getD s i 0) ∙ ap (λ (n : ℕ). n + getD s i 0) (sym e))
+
+zero-total : (s : List ℕ) → eqb (total s) 0 ≡ zeros s
+unfolding total zeros _∧ᵇ_
+zero-total [] = refl
+zero-total (zero ∷ s) = let e : 0 + total s ≡ total s = omega arith in rw e (zero-total s)
+zero-total (suc b ∷ s) = ne-eqb (suc b + total s) 0 (λ e. omega arith) ∙ sym (fails (eqb (suc b) 0) (zeros s) (ne-eqb (suc b) 0 (λ e. omega arith)))
+
+pub sum-all : (s : List ℕ) (i x : ℕ) → length s ≤ i → x ≡ total (take i s) → eqb x 0 ≡ zeros s
+sum-all s i x h e = ap (λ (n : ℕ). eqb n 0) (e ∙ ap total (take-all i s h)) ∙ zero-total s

@@ -1,0 +1,240 @@
+// When a run record is sound: a named test for each sentence of document 01.
+use layout::Found;
+use layout::Limits;
+use layout::Row;
+use meaning::Shape;
+use open::Listed;
+use open::OpenList;
+
+pub mod head;
+
+ghost use mathlib.Core.Path.{_≡_};
+ghost use mathlib.Core.Bool.{true};
+ghost use Prim.Native.Nat.{_≤_};
+ghost use lib.ListN.{length};
+ghost use Rattle.meaning.specs.Bytes.{zeros, recordBytes};
+ghost use Rattle.meaning.specs.Types.{formOf};
+ghost use Rattle.meaning.specs.Typing.{given};
+ghost use Rattle.meaning.specs.Records.{nothing, firstNot, listed, futureListed, entrySound, stateOf, spaceSound, typesSound, shapeSound, termSound, callsSound, futuresSound, programSound, sound};
+ghost use Rattle.layout.specs.Rows.{board, typeTable, rowTable};
+ghost use Rattle.open.specs.Open.{Lists, opened};
+ghost use Rattle.sound.specs.Ready.{Roomy, Ready, entryTable, restSound};
+
+// Each byte is zero: their sum is, so that the loop has no other end.
+fn all_zero(bytes: &[u8]) -> bool
+    requires { ⌜ length (now bytes) ≤ 65536 ⌝ }
+    ensures { λ b. ⌜ b ≡ zeros (now (bytes .entry)) ⌝ }
+{
+    let mut sum: u32 = 0;
+    let mut i = 0;
+    while i < bytes.len() {
+        sum += bytes[i] as u32;
+        i += 1;
+    }
+    sum == 0
+}
+
+// A future's number is open under the type that the future states.
+fn is_listed(list: OpenList, r: Row) -> bool
+    requires { ⌜ list .count ≤ 64 ⌝ }
+    ensures { λ b. ⌜ b ≡ given (listed (opened list) (r .word)) (r .ty) ⌝ }
+{
+    let l = list.find(r.word);
+    match l {
+        Listed::Under(t) => t == r.ty,
+        Listed::Nothing => false,
+    }
+}
+
+// Each future among the rows is listed with its type.
+fn futures_listed(rows: &[u8], list: OpenList) -> bool
+    requires { ⌜ list .count ≤ 64 ⌝ }
+    ensures { λ b. ⌜ b ≡ nothing (firstNot (futureListed (opened list)) (rowTable (now (rows .entry)))) ⌝ }
+{
+    let all = layout::term_rows(rows);
+    let mut i = 0;
+    while i < all {
+        let r = layout::row_at(rows, i);
+        if r.kind == 9 {
+            if !is_listed(list, r) {
+                return false;
+            }
+            i += 1;
+        } else {
+            i += 1;
+        }
+    }
+    true
+}
+
+// Each entry's number is below the next one, its type is ground, its last field is zero.
+fn entries_sound(types: &[u8], calls: &[u8], next: u32) -> bool
+    requires { ⌜ length (now types) ≤ 9216 ⌝ }
+    ensures { λ b. ⌜ b ≡ nothing (firstNot (entrySound (formOf (typeTable (now (types .entry)))) next) (entryTable (now (calls .entry)))) ⌝ }
+{
+    let all = calls.len() / layout::ENTRY_ROW;
+    let mut known = [0u8; 256];
+    let mut i = 0;
+    while i < all {
+        let at = layout::ENTRY_ROW * i;
+        if next <= layout::u32_at(calls, at) {
+            return false;
+        }
+        let ty = layout::u16_at(calls, at + 4);
+        if !types::ground_at(types, &mut known, ty as usize) {
+            return false;
+        }
+        if layout::u16_at(calls, at + 6) != 0 {
+            return false;
+        }
+        i += 1;
+    }
+    true
+}
+
+// "Unused space is zero": behind the rows in use of each part.
+fn space_sound(kept: &[u8], m: Limits) -> bool
+    requires { ⌜ Ready m (now kept) ⌝ }
+    ensures { λ b. ⌜ b ≡ spaceSound (board m) (now (kept .entry)) ⌝ }
+{
+    let calls = layout::calls_at(m);
+    let rows = layout::rows_at(m);
+    let types_end = layout::RECORD_HEAD + layout::TYPE_ROW * head::type_count(kept) as usize;
+    if !all_zero(&kept[types_end..calls]) {
+        return false;
+    }
+    let calls_end = calls + layout::ENTRY_ROW * head::open_count(kept) as usize;
+    if !all_zero(&kept[calls_end..rows]) {
+        return false;
+    }
+    let rows_end = rows + layout::TERM_ROW * head::row_count(kept) as usize;
+    all_zero(&kept[rows_end..])
+}
+
+// "its types .. pass what [refusal 6 tests]"
+fn types_sound(kept: &[u8], m: Limits) -> bool
+    requires { ⌜ Ready m (now kept) ⌝ }
+    ensures { λ b. ⌜ b ≡ typesSound (now (kept .entry)) ⌝ }
+{
+    let end = layout::RECORD_HEAD + layout::TYPE_ROW * head::type_count(kept) as usize;
+    let bad = types::bad_type(&kept[layout::RECORD_HEAD..end], head::edition(kept));
+    match bad {
+        Found::At(_) => false,
+        Found::Nothing => true,
+    }
+}
+
+// "and term pass what refusals .. 7 .. test"
+fn shape_sound(kept: &[u8], m: Limits) -> bool
+    requires { ⌜ Ready m (now kept) ⌝ }
+    ensures { λ b. ⌜ b ≡ shapeSound (board m) (now (kept .entry)) ⌝ }
+{
+    let at = layout::rows_at(m);
+    let end = at + layout::TERM_ROW * head::row_count(kept) as usize;
+    let shape = terms::check_shape(&kept[at..end], head::type_count(kept), head::edition(kept));
+    match shape {
+        Shape::Whole => true,
+        Shape::Bad(_, _) => false,
+    }
+}
+
+// "and 9 test"
+fn term_sound(kept: &[u8], m: Limits) -> bool
+    requires { ⌜ (Ready m (now kept)) × (shapeSound (board m) (now kept) ≡ true) ⌝ }
+    ensures { λ b. ⌜ b ≡ termSound (board m) (now (kept .entry)) ⌝ }
+{
+    let types_end = layout::RECORD_HEAD + layout::TYPE_ROW * head::type_count(kept) as usize;
+    let at = layout::rows_at(m);
+    let end = at + layout::TERM_ROW * head::row_count(kept) as usize;
+    let bad = typing::first_bad(&kept[layout::RECORD_HEAD..types_end], &kept[at..end]);
+    match bad {
+        Found::At(_) => false,
+        Found::Nothing => true,
+    }
+}
+
+// The open calls of a record.
+pub fn open_list(kept: &[u8], m: Limits) -> OpenList
+    requires { ⌜ Ready m (now kept) ⌝ }
+    ensures { λ o. ⌜ Lists o (stateOf (board m) (now (kept .entry)) .calls) ⌝ }
+{
+    let at = layout::calls_at(m);
+    let end = layout::rows_at(m);
+    open::load(&kept[at..end], head::open_count(kept) as usize)
+}
+
+// "kept in rising order of number", "every open number is at least 1 and below the next and its type ground"
+fn calls_sound(kept: &[u8], m: Limits) -> bool
+    requires { ⌜ Ready m (now kept) ⌝ }
+    ensures { λ b. ⌜ b ≡ callsSound (board m) (now (kept .entry)) ⌝ }
+{
+    let list = open_list(kept, m);
+    if !list.rising() {
+        return false;
+    }
+    let types_end = layout::RECORD_HEAD + layout::TYPE_ROW * head::type_count(kept) as usize;
+    let at = layout::calls_at(m);
+    let end = at + layout::ENTRY_ROW * head::open_count(kept) as usize;
+    entries_sound(
+        &kept[layout::RECORD_HEAD..types_end],
+        &kept[at..end],
+        head::next_number(kept),
+    )
+}
+
+// "each future in the term is listed with its type"
+fn futures_sound(kept: &[u8], m: Limits) -> bool
+    requires { ⌜ Ready m (now kept) ⌝ }
+    ensures { λ b. ⌜ b ≡ futuresSound (board m) (now (kept .entry)) ⌝ }
+{
+    let list = open_list(kept, m);
+    let at = layout::rows_at(m);
+    let end = at + layout::TERM_ROW * head::row_count(kept) as usize;
+    futures_listed(&kept[at..end], list)
+}
+
+// "the first row has the program type"
+fn program_sound(kept: &[u8], m: Limits) -> bool
+    requires { ⌜ Ready m (now kept) ⌝ }
+    ensures { λ b. ⌜ b ≡ programSound (board m) (now (kept .entry)) ⌝ }
+{
+    let at = layout::rows_at(m);
+    layout::u16_at(kept, at + 2) == head::program_type(kept)
+}
+
+// The tests behind the shape's: typing, the open list, the futures, the program's type.
+fn rest_sound(kept: &[u8], m: Limits) -> bool
+    requires { ⌜ (Ready m (now kept)) × (shapeSound (board m) (now kept) ≡ true) ⌝ }
+    ensures { λ b. ⌜ b ≡ restSound (board m) (now (kept .entry)) ⌝ }
+{
+    if !term_sound(kept, m) {
+        return false;
+    }
+    if !calls_sound(kept, m) {
+        return false;
+    }
+    if !futures_sound(kept, m) {
+        return false;
+    }
+    program_sound(kept, m)
+}
+
+// A record of the right length is sound.
+pub fn is_sound(kept: &[u8], m: Limits) -> bool
+    requires { ⌜ (Roomy m) × (length (now kept) ≡ recordBytes (board m)) ⌝ }
+    ensures { λ b. ⌜ b ≡ sound (board m) (now (kept .entry)) ⌝ }
+{
+    if !head::head_sound(kept, m) {
+        return false;
+    }
+    if !space_sound(kept, m) {
+        return false;
+    }
+    if !types_sound(kept, m) {
+        return false;
+    }
+    if !shape_sound(kept, m) {
+        return false;
+    }
+    rest_sound(kept, m)
+}
