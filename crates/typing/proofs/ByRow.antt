@@ -1,8 +1,8 @@
 -- What the rows of a table state, and the names that they bind. Assumes nothing.
-use Prim.Native.Nat.{ℕ, zero, suc, _+_, _*_, _<_, _≤_}
+use Prim.Native.Nat.{ℕ, zero, suc, _+_, _*_, _/_, _<_, _≤_}
 use mathlib.Core.Path.{_≡_, refl, ap, sym, _∙_}
 use mathlib.Core.Bool.{Bool, true, false}
-use mathlib.Core.List.{List, [], _∷_, map}
+use mathlib.Core.List.{List, [], _∷_}
 use mathlib.Core.Option.{none, some}
 use native.Mathlib.Omega.{arith}
 use native.Mathlib.Numerals.{add-one}
@@ -11,18 +11,18 @@ use lib.Dec.{eqb}
 use borrow.Author.Tests.{eq-eqb, ne-eqb, lt-ltb, eqb-false}
 use lib.ListN.{length, getD, drop, drop-of-length-le, length-map}
 use lib.Seq.{drop-cons}
-use Rattle.layout.proofs.Laws.{rows-length}
-use Rattle.meaning.specs.Bytes.{_∧ᵇ_, read, reads, termRow}
-use Rattle.meaning.specs.Types.{Form, Param, params, find, Ctx, empty, pick, _⹁_, sameNumbers}
-use Rattle.meaning.specs.Terms.{str, Head, lit, var, lambda, foreign, apply, future, ite, fix, nil, cons, isnil, zip, tuple, project, lproject, bind, arity, Forest, node, Row, headOf, tyOf, is, code, headFrom, rowOf, size, sizes, blank, kids, trees, top, treeAt, grove}
+use Rattle.layout.specs.Rows.{rowTable, termRows}
+use Rattle.layout.proofs.Tables.{row-table-length}
+use Rattle.meaning.specs.Bytes.{_∧ᵇ_, read, termRow}
+use Rattle.meaning.specs.Types.{Form, params, find, Ctx, empty, pick, _⹁_, sameNumbers}
+use Rattle.meaning.specs.Terms.{Head, lit, var, lambda, foreign, apply, future, ite, fix, nil, cons, isnil, zip, tuple, project, lproject, bind, arity, Forest, node, Row, headOf, tyOf, is, code, headFrom, rowOf, size, sizes, blank, kids, trees, top, treeAt, grove}
 use Rattle.meaning.specs.Typing.{Tys, ⟨⟩, _▹_, list, tys, scope, ruleOk}
 use Rattle.meaning.proofs.Trees.Parse.{grove-more}
 use Rattle.terms.specs.Tables.{Ends}
 use Rattle.terms.proofs.ByKind.{below, head-other}
-use Rattle.terms.proofs.Scan.{size-some, grove-size}
-use Rattle.typing.proofs.Cut.{tree-here}
-use Rattle.typing.specs.Forms.{termRows, behind, three}
-use Rattle.typing.specs.Scope.{binds, chain}
+use Rattle.terms.proofs.Scan.{tree-here, size-some, grove-size}
+use Rattle.rules.specs.Forms.{three}
+use Rattle.typing.specs.Scope.{behind, binds, chain}
 use Rattle.typing.proofs.Faults.{chain-more}
 
 -- Kinds ----------------------------------------------------------------------------------------------------------
@@ -97,59 +97,31 @@ code-at c k n w h g =
       | no q ↦ rw (head-other k n w (omega arith)) (ne-eqb 1 c (omega arith) ∙ sym (ne-eqb k c (omega arith)))
     ]
 
--- the kinds that are left
-pub head-literal : (k n w : ℕ) → (k ≡ 2 → ⊥) → (k ≡ 3 → ⊥) → (k ≡ 4 → ⊥) → (k ≡ 5 → ⊥) → (k ≡ 6 → ⊥) → (k ≡ 7 → ⊥) → (k ≡ 8 → ⊥) → (k ≡ 9 → ⊥) → (k ≡
-    10 → ⊥) → (k ≡ 11 → ⊥) → (k ≡ 12 → ⊥) → (k ≡ 13 → ⊥) → (k ≡ 14 → ⊥) → (k ≡ 15 → ⊥) → (k ≡ 16 → ⊥) → (k ≡ 17 → ⊥) → (k ≡ 18 → ⊥) → (k ≡ 19 → ⊥) →
-    headFrom k n w ≡ lit (str w)
-unfolding headFrom
-head-literal k n w e2 e3 e4 e5 e6 e7 e8 e9 e10 e11 e12 e13 e14 e15 e16 e17 e18 e19 = rw (
-  ne-eqb k 2 e2,
-  ne-eqb k 3 e3,
-  ne-eqb k 4 e4,
-  ne-eqb k 5 e5,
-  ne-eqb k 6 e6,
-  ne-eqb k 7 e7,
-  ne-eqb k 8 e8,
-  ne-eqb k 9 e9,
-  ne-eqb k 10 e10,
-  ne-eqb k 11 e11,
-  ne-eqb k 12 e12,
-  ne-eqb k 13 e13,
-  ne-eqb k 14 e14,
-  ne-eqb k 15 e15,
-  ne-eqb k 16 e16,
-  ne-eqb k 17 e17,
-  ne-eqb k 18 e18,
-  ne-eqb k 19 e19,
-) refl
-
 -- What rows state ------------------------------------------------------------------------------------------------
 
-module _ (s : List ℕ) (base rows p : ℕ) where
-  tree-out : rows ≤ p → treeAt (termRows s base rows) p ≡ blank
+module _ (s : List ℕ) (p : ℕ) where
+  tree-out : length s / 8 ≤ p → treeAt (termRows s) p ≡ blank
   unfolding treeAt trees top
-  tree-out h =
-      let t = reads termRow rows (drop base s) in
-      rw (drop-of-length-le (map rowOf t) {i = p} (omega (arith, rows-length termRow rows (drop base s), length-map t rowOf))) refl
+  tree-out h = rw (drop-of-length-le (termRows s) {i = p} (omega (arith, row-table-length s, length-map (rowTable s) rowOf))) refl
 
-  pub type-out : rows ≤ p → tyOf (treeAt (termRows s base rows) p) ≡ 0
+  pub type-out : length s / 8 ≤ p → tyOf (treeAt (termRows s) p) ≡ 0
   unfolding blank tyOf
   type-out h = ap tyOf (tree-out h)
 
-  pub native-out : rows ≤ p → is 6 (treeAt (termRows s base rows) p) ≡ false
+  pub native-out : length s / 8 ≤ p → is 6 (treeAt (termRows s) p) ≡ false
   unfolding blank is headOf code
   native-out h = ap (is 6) (tree-out h)
 
-  module _ (k n ty w : ℕ) (h : p < rows) (e : k ∷ n ∷ ty ∷ w ∷ [] ≡ read termRow (drop (base + 8 * p) s)) where
-    pub tree-in : treeAt (termRows s base rows) p ≡ node (headFrom k n w) ty (grove (termRows s base rows) (p + 1) (arity (headFrom k n w)))
+  module _ (k n ty w : ℕ) (h : p < length s / 8) (e : k ∷ n ∷ ty ∷ w ∷ [] ≡ read termRow (drop (8 * p) s)) where
+    pub tree-in : treeAt (termRows s) p ≡ node (headFrom k n w) ty (grove (termRows s) (p + 1) (arity (headFrom k n w)))
     unfolding rowOf
-    tree-in = tree-here s base rows p (k ∷ n ∷ ty ∷ w ∷ []) h e
+    tree-in = tree-here s p (k ∷ n ∷ ty ∷ w ∷ []) h e
 
-    pub type-in : tyOf (treeAt (termRows s base rows) p) ≡ ty
+    pub type-in : tyOf (treeAt (termRows s) p) ≡ ty
     unfolding tyOf
     type-in = ap tyOf tree-in
 
-    pub native-in : is 6 (treeAt (termRows s base rows) p) ≡ eqb k 6
+    pub native-in : is 6 (treeAt (termRows s) p) ≡ eqb k 6
     unfolding is headOf
     native-in = ap (is 6) tree-in ∙ code-at 6 k n w (omega arith) (omega arith)
 
@@ -238,12 +210,7 @@ module _ (l : List Row) (es : List ℕ) (rows p q r : ℕ) (ends : Ends l rows e
       r)))))
   tys-three (suc (suc (suc (suc n)))) h g = absurd (omega arith)
 
--- Rules by kind --------------------------------------------------------------------------------------------------
-
--- the rule of the head that a kind makes
-pub at-kind : (F : ℕ → Form) (k n w ty a b c : ℕ) (h : Head) (o : Bool) → headFrom k n w ≡ h → o ≡ ruleOk F empty h ty (three (arity h) a b c)
-    → o ≡ ruleOk F empty (headFrom k n w) ty (three (arity (headFrom k n w)) a b c)
-at-kind F k n w ty a b c h o e q = q ∙ ap (λ (h : Head). ruleOk F empty h ty (three (arity h) a b c)) (sym e)
+-- Rules and names around -----------------------------------------------------------------------------------------
 
 -- names around a row matter only to a variable
 pub rule-any : (F : ℕ → Form) (Γ : Ctx) (h : Head) (ty : ℕ) (ts : Tys (arity h)) → eqb (code h) 5 ≡ false → ruleOk F Γ h ty ts ≡ ruleOk F empty h ty
@@ -289,13 +256,13 @@ scope-none F (project j) ty ts q e f = refl
 scope-none F (lproject j) ty ts q e f = refl
 scope-none F (bind x) ty ts q e f = absurd (eqb-false 19 19 f refl)
 
-module _ (F : ℕ → Form) (s : List ℕ) (base rows p k n ty w : ℕ) (h : p < rows) (e : k ∷ n ∷ ty ∷ w ∷ [] ≡ read termRow (drop (base + 8 * p) s)) where
+module _ (F : ℕ → Form) (s : List ℕ) (p k n ty w : ℕ) (h : p < length s / 8) (e : k ∷ n ∷ ty ∷ w ∷ [] ≡ read termRow (drop (8 * p) s)) where
   abbrev l : List Row
-  l = termRows s base rows
+  l = termRows s
 
   pub binds-native : k ≡ 6 → binds F (treeAt l p) ≡ params (F ty)
   unfolding binds headFrom scope
-  binds-native q = ap (binds F) (tree-in s base rows p k n ty w h e) ∙ ap (λ (x : ℕ). binds F (node (headFrom x n w) ty (grove l (p + 1) (arity
+  binds-native q = ap (binds F) (tree-in s p k n ty w h e) ∙ ap (λ (x : ℕ). binds F (node (headFrom x n w) ty (grove l (p + 1) (arity
       (headFrom x n w))))) q
 
   pub binds-let : k ≡ 19 → binds F (treeAt l p) ≡ record { name = w; type = tyOf (treeAt l (p + 1)) } ∷ []
@@ -303,7 +270,7 @@ module _ (F : ℕ → Form) (s : List ℕ) (base rows p k n ty w : ℕ) (h : p <
   binds-let q =
       let t = treeAt l (p + 1) in
       let j = p + 1 + size t in
-      ap (binds F) (tree-in s base rows p k n ty w h e)
+      ap (binds F) (tree-in s p k n ty w h e)
       ∙ ap (λ (x : ℕ). binds F (node (headFrom x n w) ty (grove l (p + 1) (arity (headFrom x n w))))) q
       ∙ ap (λ (us : Tys 2). scope F (bind w) ty us 1) (tys-more l (p + 1) 1 ∙ ap (λ (us : Tys 1). tyOf t ▹ us) (tys-more l j 0 ∙ ap (λ (us : Tys 0).
       tyOf (treeAt l j) ▹ us) (tys-none l (j + size (treeAt l j)))))
@@ -311,24 +278,9 @@ module _ (F : ℕ → Form) (s : List ℕ) (base rows p k n ty w : ℕ) (h : p <
   pub binds-none : (k ≡ 6 → ⊥) → (k ≡ 19 → ⊥) → binds F (treeAt l p) ≡ []
   unfolding binds
   binds-none a b =
-      ap (binds F) (tree-in s base rows p k n ty w h e)
+      ap (binds F) (tree-in s p k n ty w h e)
       ∙ scope-none F (headFrom k n w) ty (tys (grove l (p + 1) (arity (headFrom k n w)))) 1 (code-at 6 k n w (omega arith) (omega arith) ∙ ne-eqb k 6
       a) (code-at 19 k n w (omega arith) (omega arith) ∙ ne-eqb k 19 b)
-
--- a name among those that one binder binds
-pub find-here : (ps : List Param) (k x : ℕ) (q : List Param) (y t : ℕ) → drop k ps ≡ record { name = y; type = t } ∷ q → y ≡ x → find (drop k ps) x ≡
-    some t
-unfolding find
-find-here ps k x q y t e h = rw (e, eq-eqb x y (sym h)) refl
-
-pub find-later : (ps : List Param) (k x : ℕ) (q : List Param) (y t : ℕ) → drop k ps ≡ record { name = y; type = t } ∷ q → (y ≡ x → ⊥) → find (drop k
-    ps) x ≡ find q x
-unfolding find
-find-later ps k x q y t e h = rw (e, ne-eqb x y (λ z. h (sym z))) refl
-
-pub find-none : (ps : List Param) (x : ℕ) → ps ≡ [] → find ps x ≡ none
-unfolding find
-find-none ps x e = rw e refl
 
 -- one binder of a chain
 module _ (F : ℕ → Form) (l : List Row) (sc : List ℕ) (low : (p : ℕ) → getD sc p 0 ≤ p) (v b x : ℕ) (e : v ≡ suc b) where

@@ -1,15 +1,15 @@
 -- The rule of a row, kind by kind, as code asks it. Assumes nothing.
-use Prim.Native.Nat.{ℕ, zero, suc, _+_, _*_, _<_, _≤_}
+use Prim.Native.Nat.{ℕ, zero, suc, _+_, _*_, _/_, _<_, _≤_}
 use mathlib.Core.Path.{_≡_, refl, ap, sym, _∙_, subst}
 use mathlib.Core.Logic.{inl, inr}
 use mathlib.Core.Bool.{Bool}
 use mathlib.Core.List.{List, [], _∷_}
 use native.Mathlib.Omega.{arith}
 use native.Mathlib.Numerals.{add-one}
-use native.Mathlib.Decide.{decLt, ℕ-discrete}
+use native.Mathlib.Decide.{ℕ-discrete}
 use lib.Dec.{eqb}
 use borrow.Author.Tests.{ne-eqb}
-use lib.ListN.{drop}
+use lib.ListN.{length, drop}
 use Rattle.meaning.specs.Bytes.{_∧ᵇ_, read, termRow}
 use Rattle.meaning.specs.Types.{Form, formNo, result, Ctx, empty, sameNumbers}
 use Rattle.meaning.specs.Terms.{apply, fix, var, arity, Forest, Row, tyOf, is, code, headFrom, rowOf, size, sizes, treeAt, grove}
@@ -17,32 +17,31 @@ use Rattle.meaning.specs.Typing.{Tys, ⟨⟩, _▹_, list, tys, scope, firstIs,
 use Rattle.meaning.proofs.Trees.Parse.{grove-more}
 use Rattle.terms.specs.Tables.{Closed, Ends}
 use Rattle.terms.proofs.ByKind.{arity-few}
-use Rattle.terms.proofs.Scan.{size-some, grove-size}
-use Rattle.typing.proofs.Cut.{size-here}
-use Rattle.typing.specs.Forms.{says, forms, partTypes, isFunction, termRows, behind, three, FixedKind}
-use Rattle.typing.specs.Scope.{judged, innerOf, Inner}
-use Rattle.typing.proofs.ByRule.{and-true, and-comm, rule-apply, rule-tuple}
+use Rattle.terms.proofs.Scan.{size-here, size-some, grove-size}
+use Rattle.layout.specs.Rows.{termRows}
+use Rattle.rules.specs.Forms.{says, forms, partTypes, isFunction, three, FixedKind}
+use Rattle.typing.specs.Scope.{behind, judged, innerOf, Inner}
+use Rattle.rules.proofs.ByRule.{and-true, and-comm, rule-apply, rule-tuple}
 use Rattle.typing.proofs.ByRow.{code-at, tree-in, numbers-comm, tys-more, tys-none, tys-three, rule-any, scope-none, behind-in}
 
-module _ (s : List ℕ) (tbase count : ℕ) (b : List ℕ) (base rows i k n ty w : ℕ) (h : i < rows) (e : k ∷ n ∷ ty ∷ w ∷ [] ≡ read termRow (drop (base + 8
-    * i) b)) where
+module _ (s b : List ℕ) (i k n ty w : ℕ) (h : i < length b / 8) (e : k ∷ n ∷ ty ∷ w ∷ [] ≡ read termRow (drop (8 * i) b)) where
   abbrev F : ℕ → Form
-  F = forms s tbase count
+  F = forms s
 
   abbrev l : List Row
-  l = termRows b base rows
+  l = termRows b
 
   abbrev R : ℕ → List ℕ
-  R = says s tbase count
+  R = says s
 
   -- the children end within the rows
-  pub children-in : Closed l rows → i + 1 + sizes (grove l (i + 1) (arity (headFrom k n w))) ≤ rows
+  pub children-in : Closed l (length b / 8) → i + 1 + sizes (grove l (i + 1) (arity (headFrom k n w))) ≤ length b / 8
   unfolding rowOf
-  children-in c = omega (arith, c .within i h, size-here b base rows i (k ∷ n ∷ ty ∷ w ∷ []) h e)
+  children-in c = omega (arith, c .within i h, size-here b i (k ∷ n ∷ ty ∷ w ∷ []) h e)
 
   pub judged-in : (Γ : Ctx) → judged F Γ (treeAt l i) ≡ rowOk F Γ (headFrom k n w) ty (grove l (i + 1) (arity (headFrom k n w)))
   unfolding judged
-  judged-in Γ = ap (judged F Γ) (tree-in b base rows i k n ty w h e)
+  judged-in Γ = ap (judged F Γ) (tree-in b i k n ty w h e)
 
   judged-plain : (Γ : Ctx) → (k ≡ 11 → ⊥) → judged F Γ (treeAt l i) ≡ ruleOk F Γ (headFrom k n w) ty (tys (grove l (i + 1) (arity (headFrom k n w))))
   unfolding rowOk belowOk
@@ -80,9 +79,9 @@ module _ (s : List ℕ) (tbase count : ℕ) (b : List ℕ) (base rows i k n ty w
       ∙ ap (rule-at empty) q
       ∙ ap (λ (us : Tys (suc n)). ruleOk F empty (apply n) ty us) (tys-more l (i + 1) n ∙ ap (λ (x : ℕ). x ▹ tys (grove l (i + 1 + size (treeAt l (i +
       1))) n)) (sym ec) ∙ ap (λ (x : ℕ). c ▹ tys (grove l x n)) (sym ea))
-      ∙ rule-apply s tbase count empty ty n c (tys (grove l at n))
+      ∙ rule-apply s empty ty n c (tys (grove l at n))
 
-  pub arguments-in : Closed l rows → (at : ℕ) → k ≡ 8 → at ≡ i + 1 + size (treeAt l (i + 1)) → at + sizes (grove l at n) ≤ rows
+  pub arguments-in : Closed l (length b / 8) → (at : ℕ) → k ≡ 8 → at ≡ i + 1 + size (treeAt l (i + 1)) → at + sizes (grove l at n) ≤ length b / 8
   unfolding headFrom
   arguments-in c at q ea =
       let z : sizes (grove l (i + 1) (arity (headFrom k n w))) ≡ sizes (grove l (i + 1) (suc n)) = ap (λ (x : ℕ). sizes (grove l (i + 1) (arity
@@ -91,23 +90,23 @@ module _ (s : List ℕ) (tbase count : ℕ) (b : List ℕ) (base rows i k n ty w
       omega (arith, children-in c, grove-size l (i + 1) n)
 
   -- where the arguments begin
-  pub arguments-at : (es : List ℕ) (at : ℕ) → Ends l rows es → Closed l rows → k ≡ 8 → at ≡ behind es rows (i + 1) → at ≡ i + 1 + size (treeAt l (i +
+  pub arguments-at : (es : List ℕ) (at : ℕ) → Ends l (length b / 8) es → Closed l (length b / 8) → k ≡ 8 → at ≡ behind es (length b / 8) (i + 1) → at ≡ i + 1 + size (treeAt l (i +
       1))
   unfolding headFrom
   arguments-at es at f c q ea =
       let z : sizes (grove l (i + 1) (arity (headFrom k n w))) ≡ sizes (grove l (i + 1) (suc n)) = ap (λ (x : ℕ). sizes (grove l (i + 1) (arity
       (headFrom x n w)))) q in
-      ea ∙ behind-in l es rows (i + 1) f (omega (arith, children-in c, grove-size l (i + 1) n, size-some (treeAt l (i + 1))))
+      ea ∙ behind-in l es (length b / 8) (i + 1) f (omega (arith, children-in c, grove-size l (i + 1) n, size-some (treeAt l (i + 1))))
 
   pub judged-tuple : k ≡ 16 → judged F empty (treeAt l i) ≡ eqb (formNo (R ty)) 5 ∧ᵇ sameNumbers (list (tys (grove l (i + 1) n))) (partTypes (R ty))
   unfolding headFrom
   judged-tuple q =
       judged-plain empty (λ z. omega arith)
       ∙ ap (rule-at empty) q
-      ∙ rule-tuple s tbase count empty ty n (tys (grove l (i + 1) n))
+      ∙ rule-tuple s empty ty n (tys (grove l (i + 1) n))
       ∙ ap (λ (x : Bool). eqb (formNo (R ty)) 5 ∧ᵇ x) (numbers-comm (partTypes (R ty)) (list (tys (grove l (i + 1) n))))
 
-  pub elements-in : Closed l rows → k ≡ 16 → i + 1 + sizes (grove l (i + 1) n) ≤ rows
+  pub elements-in : Closed l (length b / 8) → k ≡ 16 → i + 1 + sizes (grove l (i + 1) n) ≤ length b / 8
   unfolding headFrom
   elements-in c q =
       let z : sizes (grove l (i + 1) (arity (headFrom k n w))) ≡ sizes (grove l (i + 1) n) = ap (λ (x : ℕ). sizes (grove l (i + 1) (arity (headFrom x
@@ -130,13 +129,12 @@ module _ (s : List ℕ) (tbase count : ℕ) (b : List ℕ) (base rows i k n ty w
   few : FixedKind k → arity (headFrom k n w) ≤ 3
   few q = arity-few k (q .no-apply) (q .no-tuple) n w
 
-  pub judged-other : (es : List ℕ) (p q : ℕ) (x y z : ℕ) → FixedKind k → Ends l rows es → Closed l rows → p ≡ behind es rows (i + 1) → q ≡ behind es
-      rows p
+  pub judged-other : (es : List ℕ) (p q : ℕ) (x y z : ℕ) → FixedKind k → Ends l (length b / 8) es → Closed l (length b / 8) → p ≡ behind es (length b / 8) (i + 1) → q ≡ behind es (length b / 8) p
       → x ≡ tyOf (treeAt l (i + 1)) → y ≡ tyOf (treeAt l p) → z ≡ tyOf (treeAt l q)
       → judged F empty (treeAt l i) ≡ ruleOk F empty (headFrom k n w) ty (three (arity (headFrom k n w)) x y z)
   judged-other es p q x y z f ends c ep eq ex ey ez =
       judged-plain empty (f .no-fix)
-      ∙ ap (ruleOk F empty (headFrom k n w) ty) (tys-three l es rows (i + 1) p q ends ep eq (arity (headFrom k n w)) (few f) (children-in c) ∙ rw (
+      ∙ ap (ruleOk F empty (headFrom k n w) ty) (tys-three l es (length b / 8) (i + 1) p q ends ep eq (arity (headFrom k n w)) (few f) (children-in c) ∙ rw (
         ex,
         ey,
         ez,

@@ -1,15 +1,15 @@
 -- What names mean at each row, by an array that has for each row the innermost binder around it: its row and one, or 0 where there is none.
 -- Assumes nothing.
-use Prim.Native.Nat.{ℕ, zero, suc, _+_, _*_, _≤_}
+use Prim.Native.Nat.{ℕ, zero, suc, _+_, _/_, _≤_}
 use mathlib.Core.Path.{_≡_}
 use mathlib.Core.Logic.{_⊎_}
 use mathlib.Core.Bool.{Bool, cond}
 use mathlib.Core.List.{List, []}
 use mathlib.Core.Option.{Option, none}
-use lib.Dec.{eqb}
+use lib.Dec.{eqb, ltb}
 use lib.ListN.{length, getD, set}
 use Rattle.terms.specs.Tables.{Closed, Ends}
-use Rattle.typing.specs.Forms.{termRows}
+use Rattle.layout.specs.Rows.{termRows}
 use Rattle.meaning.specs.Types.{Form, Param, Ctx, empty, _⹁_}
 use Rattle.meaning.specs.Terms.{Head, arity, Tree, node, Row, size, treeAt}
 use Rattle.meaning.specs.Typing.{Tys, tys, scope, before, later, rowOk, firstBad}
@@ -56,10 +56,12 @@ judged form Γ (node h ty f) = rowOk form Γ h ty f
 abbrev pub innerOf : ℕ → ℕ → ℕ → ℕ → ℕ
 innerOf kind outer own q = cond (eqb kind 6) own (cond (eqb kind 19) (cond (eqb q 0) outer own) outer)
 
--- type rows and term rows are there, the rows are one tree, and the array has the end of each row's tree
-pub record Ready (s : List ℕ) (tbase count : ℕ) (b : List ℕ) (base rows : ℕ) (es : List ℕ) : Type 0 where
-  pub types : tbase + 36 * count ≤ length s
-  pub bytes : base + 8 * rows ≤ length b
-  pub room : rows ≤ length es
-  pub ends : Ends (termRows b base rows) rows es
-  pub closed : Closed (termRows b base rows) rows
+-- the row behind the tree at row p, by the array that has it for each row
+abbrev pub behind : List ℕ → ℕ → ℕ → ℕ
+behind es rows p = cond (ltb p rows) (getD es p 0) p
+
+-- the rows are one tree, and the array has the end of each row's tree
+pub record Ready (b : List ℕ) (es : List ℕ) : Type 0 where
+  pub room : length b / 8 ≤ length es
+  pub ends : Ends (termRows b) (length b / 8) es
+  pub closed : Closed (termRows b) (length b / 8)

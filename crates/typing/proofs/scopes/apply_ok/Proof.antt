@@ -6,8 +6,8 @@ use borrow.Author.Tests.{not-true, not-false}
 use Rattle.meaning.specs.Bytes.{_∧ᵇ_}
 use Rattle.meaning.specs.Types.{result}
 use Rattle.meaning.specs.Terms.{kindNo}
-use Rattle.typing.specs.Forms.{isFunction}
-use Rattle.typing.proofs.ByRule.{is-eq, not-eq}
+use Rattle.rules.specs.Forms.{isFunction}
+use Rattle.rules.proofs.ByRule.{is-eq, not-eq}
 use Rattle.typing.proofs.Judging.{judged-apply, arguments-in, arguments-at}
 use borrow.Author.Needs.{needs}
 use Rattle.typing.proofs.scopes.apply_ok.Statement.{statement}
@@ -26,28 +26,28 @@ apply-ok-spec =
     (λ c. unfold _∧ᵇ_ in (
     let args = c .before .before .before .before .before .before .before .before .args in
     let pre = c .before .before .before .before .before .before .before .before .pre in
-    let row-in = c .before .before .before .before .row-in in
+    let row-at = c .before .before .before .before .row-at in
     let type-at = c .before .before .before .type-at in
     let is-function = c .before .is-function in
     let form-of = c .before .before .form-of in
     let if1 = c .if1 in
-    sym (judged-apply (args .types .now) (args .tbase) (args .count) (args .bytes .now) (args .base) (args .rows) (args .i) _ _ _ _ (pre .1) (row-in
-    .ensures) (type-at .result) _ (ap (λ (r : List ℕ). kindNo r) (row-in .ensures) ∙ pre .2) (type-at .ensures) refl ∙ rw (sym (is-function
+    sym (judged-apply (args .types .now) (args .rows .now) (args .i) _ _ _ _ (pre .1) (row-at
+    .ensures) (type-at .result) _ (ap (λ (r : List ℕ). kindNo r) (row-at .ensures) ∙ pre .2) (type-at .ensures) refl ∙ rw (sym (is-function
     .ensures ∙ ap isFunction (form-of .ensures)) ∙ not-true _ (if1 .taken)) refl)))
     (λ c κs. search needs)
     -- returns-2
     (λ c. unfold _∧ᵇ_ in (
     let args = c .before .before .before .before .before .before .before .before .before .before .before .args in
     let pre = c .before .before .before .before .before .before .before .before .before .before .before .pre in
-    let row-in = c .before .before .before .before .before .before .before .row-in in
+    let row-at = c .before .before .before .before .before .before .before .row-at in
     let type-at = c .before .before .before .before .before .before .type-at in
     let is-function = c .before .before .before .before .is-function in
     let form-of = c .before .before .before .before .before .form-of in
     let if1 = c .before .before .before .if1 in
     let result-of = c .before .before .result-of in
     let if2 = c .if2 in
-    sym (judged-apply (args .types .now) (args .tbase) (args .count) (args .bytes .now) (args .base) (args .rows) (args .i) _ _ _ _ (pre .1) (row-in
-    .ensures) (type-at .result) _ (ap (λ (r : List ℕ). kindNo r) (row-in .ensures) ∙ pre .2) (type-at .ensures) refl ∙ rw (
+    sym (judged-apply (args .types .now) (args .rows .now) (args .i) _ _ _ _ (pre .1) (row-at
+    .ensures) (type-at .result) _ (ap (λ (r : List ℕ). kindNo r) (row-at .ensures) ∙ pre .2) (type-at .ensures) refl ∙ rw (
       sym (is-function
           .ensures ∙ ap isFunction (form-of .ensures)) ∙ not-false _ (if1 .left),
       not-eq _ _ _ (result-of .ensures) (if2 .taken),
@@ -59,24 +59,20 @@ apply-ok-spec =
     (λ c κs.
     let args = c .before .before .before .before .before .before .before .before .before .before .before .before .before .args in
     let pre = c .before .before .before .before .before .before .before .before .before .before .before .before .before .pre in
-    let row-in = c .before .before .before .before .before .before .before .before .before .row-in in
+    let row-at = c .before .before .before .before .before .before .before .before .before .row-at in
     let next = c .before .next in
-    let at = arguments-at (args .types .now) (args .tbase) (args .count) (args .bytes .now) (args .base) (args .rows) (args .i) _ _ _ _ (pre .1)
-    (row-in .ensures) (args .ends .now) (next .result) (pre .0 .ends) (pre .0 .closed) (ap (λ (r : List ℕ). kindNo r) (row-in .ensures) ∙ pre .2)
+    let at = arguments-at (args .types .now) (args .rows .now) (args .i) _ _ _ _ (pre .1)
+    (row-at .ensures) (args .ends .now) (next .result) (pre .0 .ends) (pre .0 .closed) (ap (λ (r : List ℕ). kindNo r) (row-at .ensures) ∙ pre .2)
     (next .ensures) in (
-      pre .0 .types,
-      pre .0 .bytes,
-      pre .0 .room,
-      pre .0 .ends,
-      arguments-in (args .types .now) (args .tbase) (args .count) (args .bytes .now) (args
-          .base) (args .rows) (args .i) _ _ _ _ (pre .1) (row-in .ensures) (pre .0 .closed) (next .result) (ap (λ (r : List ℕ). kindNo r) (row-in
+      pre .0,
+      arguments-in (args .types .now) (args .rows .now) (args .i) _ _ _ _ (pre .1) (row-at .ensures) (pre .0 .closed) (next .result) (ap (λ (r : List ℕ). kindNo r) (row-at
           .ensures) ∙ pre .2) at,
     ))
     -- returns-3
     (λ c. unfold _∧ᵇ_ in (
     let args = c .before .before .before .before .before .before .before .before .before .before .before .before .before .before .args in
     let pre = c .before .before .before .before .before .before .before .before .before .before .before .before .before .before .pre in
-    let row-in = c .before .before .before .before .before .before .before .before .before .before .row-in in
+    let row-at = c .before .before .before .before .before .before .before .before .before .before .row-at in
     let next = c .before .before .next in
     let same-types = c .same-types in
     let type-at = c .before .before .before .before .before .before .before .before .before .type-at in
@@ -85,11 +81,11 @@ apply-ok-spec =
     let if1 = c .before .before .before .before .before .before .if1 in
     let result-of = c .before .before .before .before .before .result-of in
     let if2 = c .before .before .before .if2 in
-    let at = arguments-at (args .types .now) (args .tbase) (args .count) (args .bytes .now) (args .base) (args .rows) (args .i) _ _ _ _ (pre .1)
-    (row-in .ensures) (args .ends .now) (next .result) (pre .0 .ends) (pre .0 .closed) (ap (λ (r : List ℕ). kindNo r) (row-in .ensures) ∙ pre .2)
+    let at = arguments-at (args .types .now) (args .rows .now) (args .i) _ _ _ _ (pre .1)
+    (row-at .ensures) (args .ends .now) (next .result) (pre .0 .ends) (pre .0 .closed) (ap (λ (r : List ℕ). kindNo r) (row-at .ensures) ∙ pre .2)
     (next .ensures) in
-    same-types .ensures ∙ sym (judged-apply (args .types .now) (args .tbase) (args .count) (args .bytes .now) (args .base) (args .rows) (args .i) _ _
-    _ _ (pre .1) (row-in .ensures) (type-at .result) (next .result) (ap (λ (r : List ℕ). kindNo r) (row-in .ensures) ∙ pre .2) (type-at .ensures)
+    same-types .ensures ∙ sym (judged-apply (args .types .now) (args .rows .now) (args .i) _ _
+    _ _ (pre .1) (row-at .ensures) (type-at .result) (next .result) (ap (λ (r : List ℕ). kindNo r) (row-at .ensures) ∙ pre .2) (type-at .ensures)
     at ∙ rw (
       sym (is-function .ensures ∙ ap isFunction (form-of .ensures)) ∙ not-false _ (if1 .left),
       is-eq _ _ _ (result-of .ensures) (if2

@@ -25,19 +25,19 @@ fix-ok-spec =
     let fix-ok = c .fix-ok in
     let args = c .before .before .before .before .before .before .before .args in
     let pre = c .before .before .before .before .before .before .before .pre in
-    let row-in = c .before .before .before .before .row-in in
+    let row-at = c .before .before .before .before .row-at in
     let type-at = c .before .type-at in
     let is-native = c .before .before .before .is-native in
     let if1 = c .before .before .if1 in
-    fix-ok .ensures ∙ sym (judged-fix (args .types .now) (args .tbase) (args .count) (args .bytes .now) (args .base) (args .rows) (args .i) _ _ _ _
-    (pre .2) (row-in .ensures) (type-at .result) (ap (λ (r : List ℕ). kindNo r) (row-in .ensures) ∙ pre .3) (type-at .ensures) ∙ rw (sym
+    fix-ok .ensures ∙ sym (judged-fix (args .types .now) (args .rows .now) (args .i) _ _ _ _
+    (pre .0) (row-at .ensures) (type-at .result) (ap (λ (r : List ℕ). kindNo r) (row-at .ensures) ∙ pre .1) (type-at .ensures) ∙ rw (sym
     (is-native .ensures) ∙ if1 .taken) refl)))
     -- returns-2
     (λ c. unfold _∧ᵇ_ in (
     let args = c .before .before .before .before .before .args in
     let pre = c .before .before .before .before .before .pre in
-    let row-in = c .before .before .row-in in
+    let row-at = c .before .before .row-at in
     let is-native = c .before .is-native in
     let if1 = c .if1 in
-    sym (judged-fix (args .types .now) (args .tbase) (args .count) (args .bytes .now) (args .base) (args .rows) (args .i) _ _ _ _ (pre .2) (row-in
-    .ensures) _ (ap (λ (r : List ℕ). kindNo r) (row-in .ensures) ∙ pre .3) refl ∙ rw (sym (is-native .ensures) ∙ if1 .left) refl))))
+    sym (judged-fix (args .types .now) (args .rows .now) (args .i) _ _ _ _ (pre .0) (row-at
+    .ensures) _ (ap (λ (r : List ℕ). kindNo r) (row-at .ensures) ∙ pre .1) refl ∙ rw (sym (is-native .ensures) ∙ if1 .left) refl))))

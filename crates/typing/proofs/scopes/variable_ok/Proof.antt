@@ -6,9 +6,10 @@ use mathlib.Core.Option.{Option}
 use Rattle.meaning.specs.Types.{result}
 use Rattle.meaning.specs.Terms.{kindNo}
 use Rattle.meaning.specs.Typing.{given}
-use Rattle.typing.specs.Forms.{forms, termRows}
+use Rattle.layout.specs.Rows.{termRows}
+use Rattle.rules.specs.Forms.{forms}
 use Rattle.typing.specs.Scope.{chain, around}
-use Rattle.typing.specs.Named.{named}
+use Rattle.rules.specs.Named.{named}
 use Rattle.typing.proofs.Judging.{judged-variable}
 use borrow.Author.Needs.{needs}
 use native.Mathlib.Omega.{arith}
@@ -32,36 +33,36 @@ variable-ok-spec =
     let pre = c .before .before .before .before .before .before .pre in
     let args = c .before .before .before .before .before .before .args in
     let wide = c .wide in
-    let low = pre .3 .own (args .i) in
-    (pre .0, pre .1, pre .2, omega (arith, wide .ensures, pre .4), pre .3))
+    let low = pre .1 .own (args .i) in
+    (pre .0, omega (arith, wide .ensures, pre .2), pre .1))
     (λ c. search needs)
     (λ c. search needs)
     -- returns
     (λ c. unfold given in (
     let args = c .before .before .before .before .before .before .before .before .before .before .args in
     let pre = c .before .before .before .before .before .before .before .before .before .before .pre in
-    let row-in = c .before .before .before .before .before .before .row-in in
+    let row-at = c .before .before .before .before .before .before .row-at in
     let f = c .before .f in
     let lookup = c .before .before .before .lookup in
     let wide = c .before .before .before .before .wide in
-    let F = forms (args .types .now) (args .tbase) (args .count) in
-    let l = termRows (args .bytes .now) (args .base) (args .rows) in
+    let F = forms (args .types .now) in
+    let l = termRows (args .rows .now) in
     let Γ = around F l (args .scope .now) (args .i) in
-    sym (judged-variable (args .types .now) (args .tbase) (args .count) (args .bytes .now) (args .base) (args .rows) (args .i) _ _ _ _ (pre .4)
-    (row-in .ensures) Γ (ap (λ (r : List ℕ). kindNo r) (row-in .ensures) ∙ pre .5) ∙ ap (λ (o : Option ℕ). given o (row-in .result .ty)) (sym (sym
-    (ap named (f .given .1)) ∙ lookup .ensures ∙ ap (λ (v : ℕ). chain F l (args .scope .now) v v (row-in .result .word)) (wide .ensures))))))
+    sym (judged-variable (args .types .now) (args .rows .now) (args .i) _ _ _ _ (pre .2)
+    (row-at .ensures) Γ (ap (λ (r : List ℕ). kindNo r) (row-at .ensures) ∙ pre .3) ∙ ap (λ (o : Option ℕ). given o (row-at .result .ty)) (sym (sym
+    (ap named (f .given .1)) ∙ lookup .ensures ∙ ap (λ (v : ℕ). chain F l (args .scope .now) v v (row-at .result .word)) (wide .ensures))))))
     -- returns-2
     (λ c. unfold given in (
     let args = c .before .before .before .before .before .before .before .before .before .args in
     let pre = c .before .before .before .before .before .before .before .before .before .pre in
-    let row-in = c .before .before .before .before .before .row-in in
+    let row-at = c .before .before .before .before .before .row-at in
     let enum-told = c .enum-told in
     let lookup = c .before .before .lookup in
     let wide = c .before .before .before .wide in
-    let F = forms (args .types .now) (args .tbase) (args .count) in
-    let l = termRows (args .bytes .now) (args .base) (args .rows) in
+    let F = forms (args .types .now) in
+    let l = termRows (args .rows .now) in
     let Γ = around F l (args .scope .now) (args .i) in
-    sym (judged-variable (args .types .now) (args .tbase) (args .count) (args .bytes .now) (args .base) (args .rows) (args .i) _ _ _ _ (pre .4)
-    (row-in .ensures) Γ (ap (λ (r : List ℕ). kindNo r) (row-in .ensures) ∙ pre .5) ∙ ap (λ (o : Option ℕ). given o (row-in .result .ty)) (sym (sym
-    (ap named (enum-told .given .1)) ∙ lookup .ensures ∙ ap (λ (v : ℕ). chain F l (args .scope .now) v v (row-in .result .word)) (wide
+    sym (judged-variable (args .types .now) (args .rows .now) (args .i) _ _ _ _ (pre .2)
+    (row-at .ensures) Γ (ap (λ (r : List ℕ). kindNo r) (row-at .ensures) ∙ pre .3) ∙ ap (λ (o : Option ℕ). given o (row-at .result .ty)) (sym (sym
+    (ap named (enum-told .given .1)) ∙ lookup .ensures ∙ ap (λ (v : ℕ). chain F l (args .scope .now) v v (row-at .result .word)) (wide
     .ensures)))))))

@@ -1,6 +1,7 @@
 -- A row in the table has its kind; behind it a blank stands.
 use mathlib.Core.Path.{sym}
 use Rattle.typing.proofs.ByRow.{native-out, native-in}
+use native.Mathlib.Omega.{arith}
 use borrow.Author.Needs.{needs}
 use Rattle.typing.proofs.stated.is_native.Statement.{statement}
 use Rattle.typing.proofs.stated.is_native.Tie as tie
@@ -10,14 +11,13 @@ is-native-spec =
     tie.close
     (tie.spec
     (λ c κs. search needs)
+    (λ c κs. search needs)
     -- returns
     (λ c.
-    let args = c .before .before .before .before .args in
-    let if1 = c .before .before .if1 in
-    let row-in = c .before .row-in in
-    sym (native-in (args .bytes .now) (args .base) (args .rows) (args .p) _ _ _ _ (if1 .taken) (row-in .ensures)))
+    let args = c .before .before .before .before .before .args in
+    let e = c .before .before .before .term-rows .ensures in
+    sym (native-in (args .rows .now) (args .p) _ _ _ _ (omega (arith, e, c .before .before .if1 .taken)) (c .before .row-at .ensures)))
     -- returns-2
     (λ c.
-    let args = c .before .before .args in
-    let if1 = c .if1 in
-    sym (native-out (args .bytes .now) (args .base) (args .rows) (args .p) (if1 .left))))
+    let args = c .before .before .before .args in
+    sym (native-out (args .rows .now) (args .p) (omega (arith, c .before .term-rows .ensures, c .if1 .left)))))

@@ -1,5 +1,7 @@
 -- The array's entry, in the table.
+use Prim.Native.Nat.{_/_, _<_, _≤_}
 use mathlib.Core.Path.{refl}
+use lib.ListN.{length}
 use borrow.Author.Tests.{lt-ltb, le-ltb}
 use borrow.Author.Needs.{needs}
 use native.Mathlib.Omega.{arith}
@@ -10,18 +12,18 @@ pub next-spec : {M : Type 1} → statement M
 next-spec =
     tie.close
     (tie.spec
+    (λ c κs. search needs)
     -- mul-wide
-    (λ c.
-    let good = c .before .before .good in
-    omega (arith, good))
-    (λ c. search needs)
+    (λ c. omega (arith, c .before .before .before .before .good))
+    (λ c. omega arith)
     (λ c κs. search needs)
     -- returns
     (λ c.
-    let if1 = c .before .before .if1 in
-    let wide = c .wide in
-    rw (lt-ltb _ _ (if1 .taken)) (wide .ensures))
+    let e = c .before .before .before .term-rows .ensures in
+    let h : c .before .before .before .before .before .before .args .p < length (c .before .before .before .before .before .before .args .rows .now) / 8 = omega (arith, e, c .before .before .if1 .taken) in
+    rw (lt-ltb _ _ h) (c .wide .ensures))
     -- returns-2
     (λ c.
-    let if1 = c .if1 in
-    rw (le-ltb _ _ (if1 .left)) refl))
+    let e = c .before .term-rows .ensures in
+    let h : length (c .before .before .before .before .args .rows .now) / 8 ≤ c .before .before .before .before .args .p = omega (arith, e, c .if1 .left) in
+    rw (le-ltb _ _ h) refl))

@@ -1,0 +1,29 @@
+-- In the table the row says it; beyond the table there is none.
+use Prim.Native.Nat.{ℕ}
+use mathlib.Core.Path.{sym, ap, _∙_}
+use mathlib.Core.List.{List}
+use Rattle.meaning.specs.Types.{result}
+use Rattle.rules.proofs.Reading.{says-in, says-out}
+use native.Mathlib.Omega.{arith}
+use borrow.Author.Needs.{needs}
+use Rattle.rules.proofs.forms.result_of.Statement.{statement}
+use Rattle.rules.proofs.forms.result_of.Tie as tie
+
+pub result-of-spec : {M : Type 1} → statement M
+result-of-spec =
+    tie.close
+    (tie.spec
+    (λ c. search needs)
+    (λ c. search needs)
+    (λ c κs. search needs)
+    -- returns
+    (λ c.
+    let result-no = c .result-no in
+    let args = c .before .before .before .args in
+    let if1 = c .before .if1 in
+    result-no .ensures ∙ sym (ap (λ (r : List ℕ). result r) (says-in (args .types .now) (args .t) (if1 .taken))))
+    -- returns-2
+    (λ c.
+    let args = c .before .before .args in
+    let if1 = c .if1 in
+    sym (ap (λ (r : List ℕ). result r) (says-out (args .types .now) (args .t) (omega (arith, if1 .left))))))

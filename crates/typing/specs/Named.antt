@@ -1,9 +1,0 @@
--- What a search for a name found. Assumes nothing.
-use Prim.Native.Nat.{ℕ}
-use mathlib.Core.Option.{Option, none, some}
-use Rattle.typing.specs.declared.names.Named.{Named}
-use Rattle.typing.specs.declared.names.Named.the-variants.{Has, Nothing}
-
-abbrev pub named : Named → Option ℕ
-named (Has t) = some t
-named Nothing = none
