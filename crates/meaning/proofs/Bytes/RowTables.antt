@@ -290,7 +290,7 @@ owedAfter (suc owed) (r ∷ l) = owedAfter (owed + arity (rowOf r .head)) l
 -- these trees, whole; or there is no row p and a tree is unfinished
 pub data Cause (edition count owed : ℕ) (rows : List (List ℕ)) (f : Fault) (p : ℕ) : Type 0 where
   badRow : p < length rows → rowFault edition count (getD rows p []) ≡ some f → Cause edition count owed rows f p
-  behind : f ≡ Behind → p < length rows → rowFault edition count (getD rows p []) ≡ none → shapeFrom edition count (take p rows) owed 0 ≡ Whole → Cause edition count owed rows f p
+  past-end : f ≡ Behind → p < length rows → rowFault edition count (getD rows p []) ≡ none → shapeFrom edition count (take p rows) owed 0 ≡ Whole → Cause edition count owed rows f p
   unfinished : f ≡ Unfinished → p ≡ length rows → 1 ≤ owedAfter owed rows → Cause edition count owed rows f p
 
 -- and it is the first such row
@@ -317,7 +317,7 @@ module _ (edition count : ℕ) (r : List ℕ) (l : List (List ℕ)) (k : ℕ) (f
   cause-later : (p : ℕ) → Cause edition count (k + arity (rowOf r .head)) l f p → Cause edition count (suc k) (r ∷ l) f (suc p)
   unfolding shapeFrom unless-bad owedAfter
   cause-later p (badRow h e) = badRow (omega arith) e
-  cause-later p (behind q h e w) = behind q (omega arith) e (rw clear (whole-from edition count (take p l) (k + arity (rowOf r .head)) 0 1 w))
+  cause-later p (past-end q h e w) = past-end q (omega arith) e (rw clear (whole-from edition count (take p l) (k + arity (rowOf r .head)) 0 1 w))
   cause-later p (unfinished q h o) = unfinished q (omega arith) o
 
   refused-later : (p : ℕ) → RefusedFrom edition count (k + arity (rowOf r .head)) l f p → RefusedFrom edition count (suc k) (r ∷ l) f (suc p)
@@ -348,7 +348,7 @@ refused-from edition count [] (suc k) i f p e =
     (0, omega arith, refused-here edition count (suc k) [] f (unfinished (cc) refl (omega arith)))
 refused-from edition count (r ∷ l) zero i f p e = elim (fault-cases (rowFault edition count r) _ _ _ _ e) [
   | inl d ↦ (0, omega (arith, d .1), refused-here edition count zero (r ∷ l) f (badRow (omega arith) (d .0)))
-  | inr d ↦ let q : i ≡ p = cc (d .1) in (0, omega (arith, q), refused-here edition count zero (r ∷ l) f (behind (cc (d .1)) (omega arith) (d .0) refl))
+  | inr d ↦ let q : i ≡ p = cc (d .1) in (0, omega (arith, q), refused-here edition count zero (r ∷ l) f (past-end (cc (d .1)) (omega arith) (d .0) refl))
 ]
 refused-from edition count (r ∷ l) (suc k) i f p e = elim (fault-cases (rowFault edition count r) _ _ _ _ e) [
   | inl d ↦ (0, omega (arith, d .1), refused-here edition count (suc k) (r ∷ l) f (badRow (omega arith) (d .0)))
@@ -380,7 +380,7 @@ refused-sooner edition count r l k f p d =
 
     cause : Cause edition count (suc k) (r ∷ l) f (suc p) → Cause edition count (k + arity (rowOf r .head)) l f p
     cause (badRow h e) = badRow (omega arith) e
-    cause (behind q h e w) = behind q (omega arith) e (whole-from edition count (take p l) (k + arity (rowOf r .head)) 1 0 (no-fault (rowFault edition count r) _ _ w .1))
+    cause (past-end q h e w) = past-end q (omega arith) e (whole-from edition count (take p l) (k + arity (rowOf r .head)) 1 0 (no-fault (rowFault edition count r) _ _ w .1))
     cause (unfinished q h o) = unfinished q (omega arith) o
 
 bad-here : (edition count owed : ℕ) (rows : List (List ℕ)) (i : ℕ) (f : Fault) → Cause edition count owed rows f 0 → shapeFrom edition count rows owed i ≡ Bad f i
@@ -389,10 +389,10 @@ bad-here edition count zero [] i f (badRow h e) = absurd (omega arith)
 bad-here edition count (suc k) [] i f (badRow h e) = absurd (omega arith)
 bad-here edition count zero (r ∷ l) i f (badRow h e) = rw e refl
 bad-here edition count (suc k) (r ∷ l) i f (badRow h e) = rw e refl
-bad-here edition count zero [] i f (behind q h e w) = absurd (omega arith)
-bad-here edition count (suc k) [] i f (behind q h e w) = absurd (omega arith)
-bad-here edition count zero (r ∷ l) i f (behind q h e w) = rw (e, q) refl
-bad-here edition count (suc k) (r ∷ l) i f (behind q h e w) = absurd (bad-whole _ _ w)
+bad-here edition count zero [] i f (past-end q h e w) = absurd (omega arith)
+bad-here edition count (suc k) [] i f (past-end q h e w) = absurd (omega arith)
+bad-here edition count zero (r ∷ l) i f (past-end q h e w) = rw (e, q) refl
+bad-here edition count (suc k) (r ∷ l) i f (past-end q h e w) = absurd (bad-whole _ _ w)
 bad-here edition count zero [] i f (unfinished q h o) = absurd (omega arith)
 bad-here edition count (suc k) [] i f (unfinished q h o) = rw q refl
 bad-here edition count zero (r ∷ l) i f (unfinished q h o) = absurd (omega arith)

@@ -29,7 +29,7 @@ use Rattle.meaning.proofs.Entries.Running.{Stops, behindStep, Passes}
 use Rattle.meaning.proofs.Entries.GoodStays.{Board, step-stays, reply-stays}
 use Rattle.meaning.proofs.Entries.OnGoodStates.{load-writes, run-good, run-short, reply-good, reply-short}
 use Rattle.meaning.proofs.Entries.Alive.{Of, Alive, Lives, lives-state}
-use Rattle.meaning.proofs.Entries.Paths.{Path, stops, spends, calls, steps, reached, Walk, run-traced, run-keeps, step-of, path-lives}
+use Rattle.meaning.proofs.Entries.Paths.{RunPath, ends-halted, ends-spent, ends-sent, goes-on, lastState, Walk, run-traced, run-keeps, step-of, path-lives}
 use Rattle.meaning.proofs.Bytes.Files.{loaded-good}
 
 -- One call -------------------------------------------------------------------------------------------------------
@@ -223,12 +223,12 @@ step-next m s u c p = rw (p .state) (later c)
     later (some c) = omega arith
 
 -- along a path
-path-sends : (m : Limits) (n : ℕ) {b : ℕ} {s : State} {us : List State} {a : Answer} {l : List ℕ} → Path m b s us a l → Sends (s .next) (reached s us .next) (sentIn (Ran a n))
-unfolding reached sentIn behindStep sent
-path-sends m n (stops {budget} {s} {a} h) = silent (stopped-silent m s a n h) (omega arith)
-path-sends m n (spends p) = silent refl (omega arith)
-path-sends m n (calls {budget} {s} {u} {c} p) = one (s .next) refl (omega arith) (ap (λ (q : State). q .next) (p .state))
-path-sends m n (steps {budget} {s} {u} {us} p w) = sends-lower (s .next) (u .next) (reached u us .next) _ (step-next m s u none p) (path-sends m n w)
+path-sends : (m : Limits) (n : ℕ) {b : ℕ} {s : State} {us : List State} {a : Answer} {l : List ℕ} → RunPath m b s us a l → Sends (s .next) (lastState s us .next) (sentIn (Ran a n))
+unfolding lastState sentIn behindStep sent
+path-sends m n (ends-halted {budget} {s} {a} h) = silent (stopped-silent m s a n h) (omega arith)
+path-sends m n (ends-spent p) = silent refl (omega arith)
+path-sends m n (ends-sent {budget} {s} {u} {c} p) = one (s .next) refl (omega arith) (ap (λ (q : State). q .next) (p .state))
+path-sends m n (goes-on {budget} {s} {u} {us} p w) = sends-lower (s .next) (u .next) (lastState u us .next) _ (step-next m s u none p) (path-sends m n w)
 
 run-sends : (m : Limits) (budget : ℕ) (s : State) → Sends (s .next) (runs m budget s .state .next) (sentIn (Ran (runs m budget s .answer) (runs m budget s .made)))
 run-sends m budget s = let w = run-traced m budget s in rw (← w .last) (path-sends m (runs m budget s .made) (w .path))

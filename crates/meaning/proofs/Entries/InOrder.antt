@@ -35,16 +35,16 @@ pub record Line : Type 1 where
   pub gives : Refusal → Type 0
 
 -- a fact that holds or not
-abbrev pub test : Type 0 → Refusal → Line
-test P r = record { asks = P; gives = λ x. (P → ⊥) × (x ≡ r) }
+abbrev pub factLine : Type 0 → Refusal → Line
+factLine P r = record { asks = P; gives = λ x. (P → ⊥) × (x ≡ r) }
 
 -- nothing is found, or something at a place
-abbrev pub found : Option ℕ → (ℕ → Refusal) → Line
-found o f = record { asks = o ≡ none; gives = λ x. (i : ℕ) × (o ≡ some i) × (x ≡ f i) }
+abbrev pub findLine : Option ℕ → (ℕ → Refusal) → Line
+findLine o f = record { asks = o ≡ none; gives = λ x. (i : ℕ) × (o ≡ some i) × (x ≡ f i) }
 
 -- one tree, or a fault at a place
-abbrev pub shaped : Shape → (Fault → ℕ → Refusal) → Line
-shaped s f = record { asks = s ≡ Whole; gives = λ x. (g : Fault) × (i : ℕ) × (s ≡ Bad g i) × (x ≡ f g i) }
+abbrev pub shapeLine : Shape → (Fault → ℕ → Refusal) → Line
+shapeLine s f = record { asks = s ≡ Whole; gives = λ x. (g : Fault) × (i : ℕ) × (s ≡ Bad g i) × (x ≡ f g i) }
 
 -- the verdict by lines in order: the first whose asking fails gives the refusal; accepted where none fails
 unfoldable pub First : List Line → Verdict → Type 0
@@ -54,21 +54,21 @@ First (l ∷ ls) v = ((r : Refusal) × l .gives r × (v ≡ Refused r)) ⊎ (l .
 -- "Load: 1, 2 (under 10), 3, 4, 5, 2, 6, 7, 8, 9"
 abbrev pub loadLines : Limits → List ℕ → ℕ → List Line
 loadLines m file room =
-    test (room ≡ recordBytes m) Length
-    ∷ test (width fileHead ≤ length file) Size
-    ∷ test (take 3 (read fileHead file) ≡ 84 ∷ 67 ∷ 65 ∷ []) Mark
-    ∷ test (fileEdition file ≡ version) Version
-    ∷ test ((fileNo 4 file ≡ 0) × ((1 ≤ fileTypeCount file) × (fileTypeCount file ≤ m .types)) × ((1 ≤ fileRowCount file) × (fileRowCount file ≤ m .programRows))) Count
-    ∷ test (length file ≡ width fileHead + width typeRow * fileTypeCount file + width termRow * fileRowCount file) Size
-    ∷ found (badType (fileEdition file) (fileTypes file)) TypeRow
-    ∷ shaped (shape (fileEdition file) (fileTypeCount file) (fileRows file)) Row
-    ∷ found (firstNot noFuture (fileRows file)) Future
-    ∷ found (firstBad (formOf (fileTypes file)) empty (fileTree file)) Typing
+    factLine (room ≡ recordBytes m) Length
+    ∷ factLine (width fileHead ≤ length file) Size
+    ∷ factLine (take 3 (read fileHead file) ≡ 84 ∷ 67 ∷ 65 ∷ []) Mark
+    ∷ factLine (fileEdition file ≡ version) Version
+    ∷ factLine ((fileNo 4 file ≡ 0) × ((1 ≤ fileTypeCount file) × (fileTypeCount file ≤ m .types)) × ((1 ≤ fileRowCount file) × (fileRowCount file ≤ m .programRows))) Count
+    ∷ factLine (length file ≡ width fileHead + width typeRow * fileTypeCount file + width termRow * fileRowCount file) Size
+    ∷ findLine (badType (fileEdition file) (fileTypes file)) TypeRow
+    ∷ shapeLine (shape (fileEdition file) (fileTypeCount file) (fileRows file)) Row
+    ∷ findLine (firstNot noFuture (fileRows file)) Future
+    ∷ findLine (firstBad (formOf (fileTypes file)) empty (fileTree file)) Typing
     ∷ []
 
 -- "Run: 1, 10"
 abbrev pub runLines : Limits → List ℕ → List ℕ → List Line
-runLines m kept work = test ((length kept ≡ recordBytes m) × (length work ≡ m .workBytes)) Length ∷ test (sound m kept ≡ true) Unsound ∷ []
+runLines m kept work = factLine ((length kept ≡ recordBytes m) × (length work ≡ m .workBytes)) Length ∷ factLine (sound m kept ≡ true) Unsound ∷ []
 
 -- the type under which a number is listed
 abbrev pub listedType : Option ℕ → ℕ
@@ -78,47 +78,47 @@ listedType (some t) = t
 -- "11 to 16"
 abbrev pub answerLines : Limits → State → List ℕ → List Line
 answerLines m s answer =
-    test ((width replyHead ≤ length answer) × ((1 ≤ replyCount answer) × (replyCount answer ≤ m .replyRows)) × (replyNo 2 answer ≡ 0) × (length answer ≡ width replyHead + width termRow * replyCount answer)) Header
-    ∷ test ((t : ℕ) × (listed (s .calls) (replyNumber answer) ≡ some t)) NotOpen
-    ∷ shaped (shape version (length (s .types)) (replyRows answer)) ReplyRow
-    ∷ found (firstNot replyKind (replyRows answer)) ReplyKind
-    ∷ found (replyBad (formOf (s .types)) (listedType (listed (s .calls) (replyNumber answer))) (replyTree answer)) ReplyTyping
-    ∷ test (size (settle (replyNumber answer) (replyTree answer) (s .tree)) ≤ m .rows) ReplyRoom
+    factLine ((width replyHead ≤ length answer) × ((1 ≤ replyCount answer) × (replyCount answer ≤ m .replyRows)) × (replyNo 2 answer ≡ 0) × (length answer ≡ width replyHead + width termRow * replyCount answer)) Header
+    ∷ factLine ((t : ℕ) × (listed (s .calls) (replyNumber answer) ≡ some t)) NotOpen
+    ∷ shapeLine (shape version (length (s .types)) (replyRows answer)) ReplyRow
+    ∷ findLine (firstNot replyKind (replyRows answer)) ReplyKind
+    ∷ findLine (replyBad (formOf (s .types)) (listedType (listed (s .calls) (replyNumber answer))) (replyTree answer)) ReplyTyping
+    ∷ factLine (size (settle (replyNumber answer) (replyTree answer) (s .tree)) ≤ m .rows) ReplyRoom
     ∷ []
 
 -- "Reply: 1, 10, then 11 to 16"
 abbrev pub replyLines : Limits → List ℕ → List ℕ → List ℕ → List Line
 replyLines m kept work answer =
-    test ((length kept ≡ recordBytes m) × (length work ≡ m .workBytes)) Length ∷ test (sound m kept ≡ true) Unsound ∷ answerLines m (stateOf m kept) answer
+    factLine ((length kept ≡ recordBytes m) × (length work ≡ m .workBytes)) Length ∷ factLine (sound m kept ≡ true) Unsound ∷ answerLines m (stateOf m kept) answer
 
 -- By lines ---------------------------------------------------------------------------------------------------------
 
-first-require : (ls : List Line) (P : Type 0) (b : Bool) (r : Refusal) (v : Verdict) → (b ≡ true → P) → (P → b ≡ true) → First ls v → First (test P r ∷ ls) (require b r v)
+first-require : (ls : List Line) (P : Type 0) (b : Bool) (r : Refusal) (v : Verdict) → (b ≡ true → P) → (P → b ≡ true) → First ls v → First (factLine P r ∷ ls) (require b r v)
 unfolding First require
 first-require ls P true r v h k f = inr (h refl, f)
 first-require ls P false r v h k f = inl (r, ((λ p. false≢true (k p)), refl), refl)
 
-pub first-refuse : (ls : List Line) (o : Option ℕ) (g : ℕ → Refusal) (v : Verdict) → First ls v → First (found o g ∷ ls) (refuse o g v)
+pub first-refuse : (ls : List Line) (o : Option ℕ) (g : ℕ → Refusal) (v : Verdict) → First ls v → First (findLine o g ∷ ls) (refuse o g v)
 unfolding First refuse
 first-refuse ls none g v f = inr (refl, f)
 first-refuse ls (some i) g v f = inl (g i, (i, refl, refl), refl)
 
-pub first-shape : (ls : List Line) (s : Shape) (g : Fault → ℕ → Refusal) (v : Verdict) → First ls v → First (shaped s g ∷ ls) (refuseShape s g v)
+pub first-shape : (ls : List Line) (s : Shape) (g : Fault → ℕ → Refusal) (v : Verdict) → First ls v → First (shapeLine s g ∷ ls) (refuseShape s g v)
 unfolding First refuseShape
 first-shape ls Whole g v f = inr (refl, f)
 first-shape ls (Bad x i) g v f = inl (g x i, (x, i, refl, refl), refl)
 
-first-fails : (ls : List Line) (P : Type 0) (r : Refusal) → (P → ⊥) → First (test P r ∷ ls) (Refused r)
+first-fails : (ls : List Line) (P : Type 0) (r : Refusal) → (P → ⊥) → First (factLine P r ∷ ls) (Refused r)
 unfolding First
 first-fails ls P r h = inl (r, (h, refl), refl)
 
-pub first-on : (l : Line) (ls : List Line) (v : Verdict) → l .asks → First ls v → First (l ∷ ls) v
+pub line-holds : (l : Line) (ls : List Line) (v : Verdict) → l .asks → First ls v → First (l ∷ ls) v
 unfolding First
-first-on l ls v p f = inr (p, f)
+line-holds l ls v p f = inr (p, f)
 
-pub first-none : First [] Accepted
+pub lines-done : First [] Accepted
 unfolding First
-first-none = refl
+lines-done = refl
 
 -- where a verdict accepts, every line has what it asks for
 unfoldable pub AllAsk : List Line → Type 0
@@ -153,7 +153,7 @@ verdict-in-order m file room =
     (first-refuse _ (badType (fileEdition file) (fileTypes file)) TypeRow _
     (first-shape _ (shape (fileEdition file) (fileTypeCount file) (fileRows file)) Row _
     (first-refuse _ (firstNot noFuture (fileRows file)) Future _
-    (first-refuse _ (firstBad (formOf (fileTypes file)) empty (fileTree file)) Typing _ first-none)))))))))
+    (first-refuse _ (firstBad (formOf (fileTypes file)) empty (fileTree file)) Typing _ lines-done)))))))))
 
 pub load-in-order : (m : Limits) (file kept : List ℕ) → First (loadLines m file (length kept)) (load m file kept .verdict)
 unfolding load
@@ -186,7 +186,7 @@ unfolding run
 run-in-order m kept work budget =
     rw (run-verdict m (runs m budget (stateOf m kept)) kept work (lent m kept work) (sound m kept))
     (first-require _ _ _ Length _ (lent-told m kept work) (lent-of m kept work)
-    (first-require _ _ _ Unsound _ (λ e. e) (λ e. e) first-none))
+    (first-require _ _ _ Unsound _ (λ e. e) (λ e. e) lines-done))
 
 -- Reply ------------------------------------------------------------------------------------------------------------
 
@@ -207,20 +207,20 @@ header-of m answer (a, (b, c), d, e) = both _ _ (le-leb _ _ a) (both _ _ (within
 -- the lines behind the header, by the type under which the number is listed
 open-in-order : (m : Limits) (s : State) (answer : List ℕ) (o : Option ℕ)
     → First
-    (test ((t : ℕ) × (o ≡ some t)) NotOpen
-    ∷ shaped (shape version (length (s .types)) (replyRows answer)) ReplyRow
-    ∷ found (firstNot replyKind (replyRows answer)) ReplyKind
-    ∷ found (replyBad (formOf (s .types)) (listedType o) (replyTree answer)) ReplyTyping
-    ∷ test (size (settle (replyNumber answer) (replyTree answer) (s .tree)) ≤ m .rows) ReplyRoom
+    (factLine ((t : ℕ) × (o ≡ some t)) NotOpen
+    ∷ shapeLine (shape version (length (s .types)) (replyRows answer)) ReplyRow
+    ∷ findLine (firstNot replyKind (replyRows answer)) ReplyKind
+    ∷ findLine (replyBad (formOf (s .types)) (listedType o) (replyTree answer)) ReplyTyping
+    ∷ factLine (size (settle (replyNumber answer) (replyTree answer) (s .tree)) ≤ m .rows) ReplyRoom
     ∷ []) (answerVerdict m s answer o)
 unfolding answerVerdict
 open-in-order m s answer none = first-fails _ _ NotOpen (λ p. none-some (p .0) (p .1))
 open-in-order m s answer (some t) =
-    first-on (test ((y : ℕ) × (some t ≡ some y)) NotOpen) _ _ (t, refl)
+    line-holds (factLine ((y : ℕ) × (some t ≡ some y)) NotOpen) _ _ (t, refl)
     (first-shape _ (shape version (length (s .types)) (replyRows answer)) ReplyRow _
     (first-refuse _ (firstNot replyKind (replyRows answer)) ReplyKind _
     (first-refuse _ (replyBad (formOf (s .types)) t (replyTree answer)) ReplyTyping _
-    (first-require _ _ _ ReplyRoom _ (leb-true _ (m .rows)) (le-leb _ (m .rows)) first-none))))
+    (first-require _ _ _ ReplyRoom _ (leb-true _ (m .rows)) (le-leb _ (m .rows)) lines-done))))
 
 pub answer-in-order : (m : Limits) (s : State) (answer : List ℕ) → First (answerLines m s answer) (replyVerdict m s answer)
 unfolding replyVerdict
@@ -252,7 +252,7 @@ unfoldable pub AllSharp : List Line → Type 0
 AllSharp [] = Unit {0}
 AllSharp (l ∷ ls) = Sharp l × AllSharp ls
 
-pub test-sharp : (P : Type 0) (r : Refusal) → Sharp (test P r)
+pub test-sharp : (P : Type 0) (r : Refusal) → Sharp (factLine P r)
 test-sharp P r = record { never-both = λ x p g. g .0 p; one-refusal = λ x y g h. g .1 ∙ sym (h .1) }
 
 some-one : (o : Option ℕ) (i j : ℕ) → o ≡ some i → o ≡ some j → i ≡ j
@@ -264,14 +264,14 @@ bad-one s g h i j p q = (cc, cc)
 whole-bad : (s : Shape) (g : Fault) (i : ℕ) → s ≡ Whole → s ≡ Bad g i → ⊥
 whole-bad s g i p q = let z : _≡_ {A = ℕ} 0 1 = cc in omega arith
 
-pub found-sharp : (o : Option ℕ) (f : ℕ → Refusal) → Sharp (found o f)
+pub found-sharp : (o : Option ℕ) (f : ℕ → Refusal) → Sharp (findLine o f)
 found-sharp o f =
     record {
       never-both = λ x p g. none-some (g .0) (sym p ∙ g .1);
       one-refusal = λ x y g h. g .2 ∙ ap f (some-one o (g .0) (h .0) (g .1) (h .1)) ∙ sym (h .2);
     }
 
-pub shaped-sharp : (s : Shape) (f : Fault → ℕ → Refusal) → Sharp (shaped s f)
+pub shaped-sharp : (s : Shape) (f : Fault → ℕ → Refusal) → Sharp (shapeLine s f)
 shaped-sharp s f =
     record {
       never-both = λ x p g. whole-bad s (g .0) (g .1) p (g .2);

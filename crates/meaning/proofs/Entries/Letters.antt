@@ -35,7 +35,7 @@ use Rattle.meaning.proofs.Entries.OpenList.{listed-new}
 use Rattle.meaning.proofs.Entries.Running.{Stops, behindStep, Passes}
 use Rattle.meaning.proofs.Entries.GoodStays.{Board, step-stays, reply-stays}
 use Rattle.meaning.proofs.Entries.Alive.{Of}
-use Rattle.meaning.proofs.Entries.Paths.{Path, stops, spends, calls, steps, reached, run-traced, path-keeps, each-reached, step-of}
+use Rattle.meaning.proofs.Entries.Paths.{RunPath, ends-halted, ends-spent, ends-sent, goes-on, lastState, run-traced, path-keeps, each-last, step-of}
 use Rattle.meaning.proofs.Entries.Reports.{answered, answered-walk}
 
 -- A send on a good state -------------------------------------------------------------------------------------------
@@ -97,7 +97,7 @@ module _ (m : Limits) (k : Board m) (s : State) (g : Good m s) (c : Call) (u : S
 record Called (m : Limits) (s : State) (us : List State) (k : ℕ) (l : List ℕ) : Type 0 where
   from : State
   call : Call
-  passes : Passes m from (some call) (reached s us)
+  passes : Passes m from (some call) (lastState s us)
   good : Good m from
   of-program : Of (s .types) (s .program) from
   number : from .next ≡ k
@@ -113,14 +113,14 @@ stops-sent : (m : Limits) (s : State) (a : Answer) (k : ℕ) → a ≡ Sent k �
 unfolding Stops
 stops-sent m s a k e h = rw e at h
 
-path-called : (m : Limits) → Board m → {b : ℕ} {s : State} {us : List State} {a : Answer} {l : List ℕ} → Path m b s us a l → Good m s → (k : ℕ) → a ≡ Sent k → Called m s us k l
-unfolding reached
-path-called m b (stops {budget} {s} {a} h) g k e = absurd (stops-sent m s a k e h)
-path-called m b (spends p) g k e = absurd (budget-sent k e)
-path-called m b (calls {budget} {s} {u} {c} p) g k e =
+path-called : (m : Limits) → Board m → {b : ℕ} {s : State} {us : List State} {a : Answer} {l : List ℕ} → RunPath m b s us a l → Good m s → (k : ℕ) → a ≡ Sent k → Called m s us k l
+unfolding lastState
+path-called m b (ends-halted {budget} {s} {a} h) g k e = absurd (stops-sent m s a k e h)
+path-called m b (ends-spent p) g k e = absurd (budget-sent k e)
+path-called m b (ends-sent {budget} {s} {u} {c} p) g k e =
     let q = sent-same (s .next) k e in
     record { from = s; call = c; passes = p; good = g; of-program = record { same-types = refl; same-program = refl }; number = q; letter = ap (λ (i : ℕ). letterOf i c) q }
-path-called m b (steps {budget} {s} {u} {us} p w) g k e =
+path-called m b (goes-on {budget} {s} {u} {us} p w) g k e =
     let d = path-called m b w (step-stays m b s u none p g) k e in
     let o = step-of m (s .types) (s .program) s u none p (record { same-types = refl; same-program = refl }) in
     record {
@@ -133,17 +133,17 @@ path-called m b (steps {budget} {s} {u} {us} p w) g k e =
       letter = d .letter;
     }
 
-path-letter : (m : Limits) → Board m → {b : ℕ} {s : State} {us : List State} {a : Answer} {l : List ℕ} → Path m b s us a l → Good m s → length l ≤ m .workBytes
-path-letter m b (stops h) g = omega arith
-path-letter m b (spends p) g = omega arith
-path-letter m b (calls {budget} {s} {u} {c} p) g = letter-room m b s g c u p
-path-letter m b (steps {budget} {s} {u} p w) g = path-letter m b w (step-stays m b s u none p g)
+path-letter : (m : Limits) → Board m → {b : ℕ} {s : State} {us : List State} {a : Answer} {l : List ℕ} → RunPath m b s us a l → Good m s → length l ≤ m .workBytes
+path-letter m b (ends-halted h) g = omega arith
+path-letter m b (ends-spent p) g = omega arith
+path-letter m b (ends-sent {budget} {s} {u} {c} p) g = letter-room m b s g c u p
+path-letter m b (goes-on {budget} {s} {u} p w) g = path-letter m b w (step-stays m b s u none p g)
 
-path-silent : (m : Limits) {b : ℕ} {s : State} {us : List State} {a : Answer} {l : List ℕ} → Path m b s us a l → ((k : ℕ) → a ≡ Sent k → ⊥) → l ≡ []
-path-silent m (stops h) q = refl
-path-silent m (spends p) q = refl
-path-silent m (calls {budget} {s} p) q = absurd (q (s .next) refl)
-path-silent m (steps p w) q = path-silent m w q
+path-silent : (m : Limits) {b : ℕ} {s : State} {us : List State} {a : Answer} {l : List ℕ} → RunPath m b s us a l → ((k : ℕ) → a ≡ Sent k → ⊥) → l ≡ []
+path-silent m (ends-halted h) q = refl
+path-silent m (ends-spent p) q = refl
+path-silent m (ends-sent {budget} {s} p) q = absurd (q (s .next) refl)
+path-silent m (goes-on p w) q = path-silent m w q
 
 -- On bytes ---------------------------------------------------------------------------------------------------------
 
@@ -184,7 +184,7 @@ module _ (m : Limits) (k : Board m) (kept work : List ℕ) (budget : ℕ) (bytes
       let s = stateOf m kept in
       let g = good-state m kept (k .small) (eqb-true _ _ (left _ _ (x .buffers))) bytes (x .is-sound) in
       let d = path-called m k (w .path) g number refl in
-      let last = reached s (w .states) in
+      let last = lastState s (w .states) in
       let c = d .call in
       let zs : List ℕ = replicate (m .workBytes - length (letterOf number c)) 0 in
       let f : LetterFits number c = rw (d .number) at (letter-fits m k (d .from) (d .good) c last (d .passes)) in
@@ -238,7 +238,7 @@ run-lengths m k kept work budget h = go (lent m kept work) (sound m kept) refl r
         let n = eqb-true (length kept) _ (left _ _ e) in
         let g = good-state m kept (k .small) n h q in
         let w = run-traced m budget (stateOf m kept) in
-        let f : Good m (runs m budget (stateOf m kept) .state) = rw (w .last) at (each-reached (Good m) (stateOf m kept) (w .states) g (path-keeps m (Good m) (step-stays m k) (w .path) g)) in
+        let f : Good m (runs m budget (stateOf m kept) .state) = rw (w .last) at (each-last (Good m) (stateOf m kept) (w .states) g (path-keeps m (Good m) (step-stays m k) (w .path) g)) in
         (record-length m (runs m budget (stateOf m kept) .state) (k .small) f ∙ sym n, padded-length (m .workBytes) (runs m budget (stateOf m kept) .letter) (path-letter m k (w .path) g) ∙ sym (eqb-true (length work) _ (right _ _ e)))
     go true false e q = (refl, refl)
     go false b e q = (refl, refl)

@@ -15,22 +15,22 @@ use Rattle.meaning.specs.declared.Refusal.the-variants.{Typing}
 use Rattle.meaning.specs.declared.Verdict.{Verdict}
 use Rattle.meaning.specs.declared.Verdict.the-variants.{Accepted, Refused}
 use Rattle.meaning.proofs.Typing.FirstBad.{typed-if, typed-of}
-use Rattle.meaning.proofs.Entries.InOrder.{loadLines, first-refuse, first-on, first-none, AllAsk, first-accepted, verdict-in-order, first-one, load-order-one}
+use Rattle.meaning.proofs.Entries.InOrder.{loadLines, first-refuse, line-holds, lines-done, AllAsk, first-accepted, verdict-in-order, first-one, load-order-one}
 
 -- of a legal file only the typing is left to test
 pub legal-verdict : (m : Limits) (file : List ℕ) → LegalFile m file
     → loadVerdict m file (recordBytes m) ≡ refuse (firstBad (formOf (fileTypes file)) empty (fileTree file)) Typing Accepted
 legal-verdict m file l =
     first-one (loadLines m file (recordBytes m)) _ _ (load-order-one m file (recordBytes m)) (verdict-in-order m file (recordBytes m))
-    (first-on _ _ _ refl
-    (first-on _ _ _ (l .long)
-    (first-on _ _ _ (l .mark)
-    (first-on _ _ _ (l .edition)
-    (first-on _ _ _ (l .zero-byte, (l .types-some, l .types-many), (l .rows-some, l .rows-many))
-    (first-on _ _ _ (l .size)
-    (first-on _ _ _ (l .types-good)
-    (first-on _ _ _ (l .one-tree)
-    (first-on _ _ _ (l .no-future) (first-refuse [] (firstBad (formOf (fileTypes file)) empty (fileTree file)) Typing Accepted first-none))))))))))
+    (line-holds _ _ _ refl
+    (line-holds _ _ _ (l .long)
+    (line-holds _ _ _ (l .mark)
+    (line-holds _ _ _ (l .edition)
+    (line-holds _ _ _ (l .zero-byte, (l .types-some, l .types-many), (l .rows-some, l .rows-many))
+    (line-holds _ _ _ (l .size)
+    (line-holds _ _ _ (l .types-good)
+    (line-holds _ _ _ (l .one-tree)
+    (line-holds _ _ _ (l .no-future) (first-refuse [] (firstBad (formOf (fileTypes file)) empty (fileTree file)) Typing Accepted lines-done))))))))))
 
 -- an accepted file is of legal form, and its rows keep their rules
 pub accepted-legal : (m : Limits) (file : List ℕ) (room : ℕ) → loadVerdict m file room ≡ Accepted

@@ -20,7 +20,7 @@ use Rattle.meaning.specs.declared.Verdict.{Verdict}
 use Rattle.meaning.specs.declared.Verdict.the-variants.{Accepted, Refused}
 use Rattle.meaning.specs.declared.Run.{Run}
 use Rattle.meaning.specs.declared.Run.the-variants.{Ran, Rejected}
-use Rattle.meaning.proofs.Entries.InOrder.{Line, First, test, found, shaped, loadLines, replyLines, load-in-order, reply-in-order}
+use Rattle.meaning.proofs.Entries.InOrder.{Line, First, factLine, findLine, shapeLine, loadLines, replyLines, load-in-order, reply-in-order}
 
 leaves-old : (v : Verdict) (r : Refusal) (new old : List ℕ) → v ≡ Refused r → leaves v new old ≡ old
 unfolding leaves
@@ -95,13 +95,13 @@ first-among ns [] v k e = rw e (among-accepted ns)
 first-among ns (l ∷ ls) v (h, k) (inl (r, g, e)) = rw e (among-refused ns r (h r g))
 first-among ns (l ∷ ls) v (h, k) (inr (a, f)) = first-among ns ls v k f
 
-test-among : (ns : List ℕ) (P : Type 0) (r : Refusal) → member (refusalNumber r) ns ≡ true → (x : Refusal) → test P r .gives x → member (refusalNumber x) ns ≡ true
+test-among : (ns : List ℕ) (P : Type 0) (r : Refusal) → member (refusalNumber r) ns ≡ true → (x : Refusal) → factLine P r .gives x → member (refusalNumber x) ns ≡ true
 test-among ns P r e x (_, q) = rw q e
 
-found-among : (ns : List ℕ) (o : Option ℕ) (f : ℕ → Refusal) → ((i : ℕ) → member (refusalNumber (f i)) ns ≡ true) → (x : Refusal) → found o f .gives x → member (refusalNumber x) ns ≡ true
+found-among : (ns : List ℕ) (o : Option ℕ) (f : ℕ → Refusal) → ((i : ℕ) → member (refusalNumber (f i)) ns ≡ true) → (x : Refusal) → findLine o f .gives x → member (refusalNumber x) ns ≡ true
 found-among ns o f e x (i, _, q) = rw q (e i)
 
-shaped-among : (ns : List ℕ) (s : Shape) (f : Fault → ℕ → Refusal) → ((g : Fault) (i : ℕ) → member (refusalNumber (f g i)) ns ≡ true) → (x : Refusal) → shaped s f .gives x → member (refusalNumber x) ns ≡ true
+shaped-among : (ns : List ℕ) (s : Shape) (f : Fault → ℕ → Refusal) → ((g : Fault) (i : ℕ) → member (refusalNumber (f g i)) ns ≡ true) → (x : Refusal) → shapeLine s f .gives x → member (refusalNumber x) ns ≡ true
 shaped-among ns s f e x (g, i, _, q) = rw q (e g i)
 
 abbrev pub loadNumbers : List ℕ

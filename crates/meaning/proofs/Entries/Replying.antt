@@ -23,7 +23,7 @@ use Rattle.meaning.proofs.Bytes.Layouts.{reads-wide}
 use Rattle.meaning.proofs.Bytes.RowTables.{legal, shape-whole}
 use Rattle.meaning.proofs.Typing.FirstBad.{typed-if, typed-of}
 use Rattle.meaning.proofs.Bytes.Records.{Good}
-use Rattle.meaning.proofs.Entries.InOrder.{listedType, answerLines, first-on, first-none, AllAsk, first-accepted, header-told, header-of, answer-in-order, first-one, answer-order-one}
+use Rattle.meaning.proofs.Entries.InOrder.{listedType, answerLines, line-holds, lines-done, AllAsk, first-accepted, header-told, header-of, answer-in-order, first-one, answer-order-one}
 use Rattle.meaning.proofs.Entries.OpenList.{listed-fact}
 use Rattle.meaning.proofs.Typing.GroundValues.{Plain, value-plain, plain-value}
 
@@ -115,12 +115,12 @@ takes m s answer g l = (
   (λ a.
       let o = reply-tree (length (s .types)) answer (l .one-tree) in
       first-one (answerLines m s answer) _ _ (answer-order-one m s answer) (answer-in-order m s answer)
-      (first-on _ _ _ (header-told m answer (l .header))
-      (first-on _ _ _ (a .type, a .open-call)
-      (first-on _ _ _ (l .one-tree)
-      (first-on _ _ _ (plain-kinds (length (s .types)) answer o (plain-reply m s answer g a))
-      (first-on _ _ _ (replied-well (formOf (s .types)) (listed (s .calls) (replyNumber answer)) (a .type) (replyTree answer) (a .open-call) (a .of-type) (a .typed))
-      (first-on _ _ _ (a .fits) first-none))))))),
+      (line-holds _ _ _ (header-told m answer (l .header))
+      (line-holds _ _ _ (a .type, a .open-call)
+      (line-holds _ _ _ (l .one-tree)
+      (line-holds _ _ _ (plain-kinds (length (s .types)) answer o (plain-reply m s answer g a))
+      (line-holds _ _ _ (replied-well (formOf (s .types)) (listed (s .calls) (replyNumber answer)) (a .type) (replyTree answer) (a .open-call) (a .of-type) (a .typed))
+      (line-holds _ _ _ (a .fits) lines-done))))))),
 )
 
 -- "no reply is taken for a number that is not open"

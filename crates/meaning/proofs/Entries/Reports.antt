@@ -24,7 +24,7 @@ use Rattle.meaning.proofs.Trees.Tests.{left, none-some}
 use Rattle.meaning.proofs.Trees.EachRow.{Every, Due, Listed, every-rows, rows-every, all-rows-map}
 use Rattle.meaning.proofs.Bytes.Layouts.{AllBytes, padded-none}
 use Rattle.meaning.proofs.Bytes.Records.{Small, Good, good-state, state-record}
-use Rattle.meaning.proofs.Entries.Paths.{reached, Walk, run-walks, path-keeps, each-reached, path-makes, path-within, Ending, path-ends}
+use Rattle.meaning.proofs.Entries.Paths.{lastState, Walk, run-walks, path-keeps, each-last, path-makes, path-within, PathEnds, path-ends}
 use Rattle.meaning.proofs.Entries.OpenList.{gone, listed-without}
 use Rattle.meaning.proofs.Entries.InOrder.{never-accepted}
 use Rattle.meaning.proofs.Entries.Replying.{Answers, takes}
@@ -70,13 +70,13 @@ answered m kept work budget a n q =
 pub record Reported (m : Limits) (kept work : List ℕ) (budget : ℕ) (a : Answer) (n : ℕ) : Type 0 where
   pub walk : Walk m kept budget a n (run m kept work budget .record′) (run m kept work budget .work′)
   pub state : State
-  pub last : reached (stateOf m kept) (walk .states) ≡ state
+  pub last : lastState (stateOf m kept) (walk .states) ≡ state
   pub good : Good m state
   pub steps : afterSteps n (stateOf m kept) ≡ some state
   pub within : n ≤ budget
   pub record-bytes : run m kept work budget .record′ ≡ recordOf m state
   pub record-state : stateOf m (run m kept work budget .record′) ≡ state
-  pub ends : Ending m budget (stateOf m kept) (walk .states) a (walk .letter)
+  pub ends : PathEnds m budget (stateOf m kept) (walk .states) a (walk .letter)
 
 ran-same : (a b : Answer) (n k : ℕ) → Ran a n ≡ Ran b k → (a ≡ b) × (n ≡ k)
 ran-same a b n k e = (cc, cc)
@@ -97,16 +97,16 @@ run-reports m k kept work budget a n h q =
     let w = answered-walk m kept work budget a n q in
     let s = stateOf m kept in
     let g = good-state m kept (k .small) (eqb-true _ _ (left _ _ (x .buffers))) h (x .is-sound) in
-    let f = each-reached (Good m) s (w .states) g (path-keeps m (Good m) (step-stays m k) (w .path) g) in
+    let f = each-last (Good m) s (w .states) g (path-keeps m (Good m) (step-stays m k) (w .path) g) in
     record {
       walk = w;
-      state = reached s (w .states);
+      state = lastState s (w .states);
       last = refl;
       good = f;
       steps = ap (λ (i : ℕ). afterSteps i s) (sym (w .made)) ∙ path-makes m (w .path);
       within = omega (arith, path-within m (w .path), w .made);
       record-bytes = w .kept-bytes;
-      record-state = ap (stateOf m) (w .kept-bytes) ∙ state-record m (reached s (w .states)) (k .small) f;
+      record-state = ap (stateOf m) (w .kept-bytes) ∙ state-record m (lastState s (w .states)) (k .small) f;
       ends = path-ends m (w .path);
     }
 

@@ -80,47 +80,47 @@ pub record Passes (m : Limits) (s : State) (c : Option Call) (s′ : State) : Ty
   pub state : s′ ≡ behindStep s c tree
 
 -- a try tells the truth
-unfoldable pub Truthful : Limits → State → Try → Type 0
-Truthful m s (halt a) = Stops m s a
-Truthful m s (pass c u) = Passes m s c u
+unfoldable pub Tried : Limits → State → Try → Type 0
+Tried m s (halt a) = Stops m s a
+Tried m s (pass c u) = Passes m s c u
 
 -- Tries -----------------------------------------------------------------------------------------
 
 room-tells : (m : Limits) (s : State) (c : Option Call) (u : Tree) → value (s .tree) ≡ false → stepOf s ≡ go c u → MaySend m s c → (b : Bool) → leb (size u) (m .rows) ≡ b
-    → Truthful m s (need b Room (pass c (behindStep s c u)))
-unfolding Truthful need Stops
+    → Tried m s (need b Room (pass c (behindStep s c u)))
+unfolding Tried need Stops
 room-tells m s c u v e k true q = record { open-term = v; tree = u; steps = e; may = k; room = leb-true _ _ q; state = refl }
 room-tells m s c u v e k false q = (v, (c, u, e, k, leb-false _ _ q))
 
 send-tells : (m : Limits) (s : State) (c : Call) (u : Tree) → value (s .tree) ≡ false → stepOf s ≡ go (some c) u → SendMeets m s
-    → Truthful m s (unmet (sendMeets m s) (need (leb (size u) (m .rows)) Room (pass (some c) (behindStep s (some c) u))))
-unfolding Truthful unmet Stops MaySend
+    → Tried m s (unmet (sendMeets m s) (need (leb (size u) (m .rows)) Room (pass (some c) (behindStep s (some c) u))))
+unfolding Tried unmet Stops MaySend
 send-tells m s c u v e (meets-nothing q a b) = rw q (room-tells m s (some c) u v e (a, b) (leb (size u) (m .rows)) refl)
 send-tells m s c u v e (meets-held q a) = rw q (v, (c, u, e, a))
 send-tells m s c u v e (meets-numbers q a b) = rw q (v, (c, u, e, a, b))
 
-out-tells : (m : Limits) (s : State) (o : Out) → value (s .tree) ≡ false → stepOf s ≡ o → Truthful m s (tryOut m s o)
-unfolding Truthful tryOut Stops MaySend behindStep
+out-tells : (m : Limits) (s : State) (o : Out) → value (s .tree) ≡ false → stepOf s ≡ o → Tried m s (tryOut m s o)
+unfolding Tried tryOut Stops MaySend behindStep
 out-tells m s stay v e = (v, e)
 out-tells m s (go none u) v e = room-tells m s none u v e tt (leb (size u) (m .rows)) refl
 out-tells m s (go (some c) u) v e = send-tells m s c u v e (send-meets m s)
 
-value-tells : (m : Limits) (s : State) (b : Bool) → value (s .tree) ≡ b → Truthful m s (cond b (halt Value) (tryOut m s (stepOf s)))
-unfolding Truthful Stops
+value-tells : (m : Limits) (s : State) (b : Bool) → value (s .tree) ≡ b → Tried m s (cond b (halt Value) (tryOut m s (stepOf s)))
+unfolding Tried Stops
 value-tells m s true q = q
 value-tells m s false q = out-tells m s (stepOf s) q refl
 
-try-tells : (m : Limits) (s : State) → Truthful m s (try m s)
+try-tells : (m : Limits) (s : State) → Tried m s (try m s)
 unfolding try
 try-tells m s = value-tells m s (value (s .tree)) refl
 
 -- the answers before a step are those of document 01's table, each exactly when its line says
 pub stops-when : (m : Limits) (s : State) (a : Answer) → try m s ≡ halt a → Stops m s a
-unfolding Truthful
+unfolding Tried
 stops-when m s a e = rw e at (try-tells m s)
 
 pub passes-when : (m : Limits) (s : State) (c : Option Call) (u : State) → try m s ≡ pass c u → Passes m s c u
-unfolding Truthful
+unfolding Tried
 passes-when m s c u e = rw e at (try-tells m s)
 
 -- and the other way round

@@ -34,8 +34,8 @@ module _ (form : ℕ → Form) where
     is = ap (λ l. p ++ l) (d .is) ∙ simp append-assoc;
   }
 
-  behind : {k : ℕ} {c : Option Call} {ts us : List Row} (q : List Row) → Changed k c ts us → Changed k c (ts ++ q) (us ++ q)
-  behind q d = record {
+  followed : {k : ℕ} {c : Option Call} {ts us : List Row} (q : List Row) → Changed k c ts us → Changed k c (ts ++ q) (us ++ q)
+  followed q d = record {
     before = d .before;
     after = d .after ++ q;
     head = d .head;
@@ -55,7 +55,7 @@ module _ (form : ℕ → Form) where
     changed (inside {h} {u} p) = ahead (record { head = h; type = u } ∷ []) (changed-in p)
 
     changed-in : {n k : ℕ} {c : Option Call} {a : Places} {f g : Forest n} → FollowsIn form n k c a f g → Changed k c (flats f) (flats g)
-    changed-in (this {f} e p) = behind (flats f) (changed p)
+    changed-in (this {f} e p) = followed (flats f) (changed p)
     changed-in (that {t} p) = ahead (flat t) (changed-in p)
 
   pub step-changes : (k : ℕ) (c : Option Call) (t u : Tree) → step form k t ≡ go c u → Changed k c (flat t) (flat u)

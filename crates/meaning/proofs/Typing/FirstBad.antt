@@ -166,16 +166,16 @@ pub first-false-at : (l : List Bool) (i : ℕ) → firstFalse l ≡ some i → (
 unfolding firstFalse stop later
 first-false-at [] i e = (absurd (none-some i e), cc, λ j h. cc)
 first-false-at (false ∷ l) i e = let q : i ≡ 0 = cc in (omega arith, rw q refl, λ j h. absurd (omega arith))
-first-false-at (true ∷ l) i e = behind (firstFalse l) (first-false-at l) e
+first-false-at (true ∷ l) i e = in-the-rest (firstFalse l) (first-false-at l) e
   where
     earlier : (j : ℕ) → ((m : ℕ) → m < j → getD l m true ≡ true) → i ≤ suc j → (m : ℕ) → m < i → getD (true ∷ l) m true ≡ true
     earlier j c g zero h = refl
     earlier j c g (suc m) h = c m (omega arith)
 
-    behind : (o : Option ℕ) → ((j : ℕ) → o ≡ some j → (j < length l) × (getD l j true ≡ false) × ((m : ℕ) → m < j → getD l m true ≡ true)) → later 1 o ≡ some i
+    in-the-rest : (o : Option ℕ) → ((j : ℕ) → o ≡ some j → (j < length l) × (getD l j true ≡ false) × ((m : ℕ) → m < j → getD l m true ≡ true)) → later 1 o ≡ some i
         → (i < length (true ∷ l)) × (getD (true ∷ l) i true ≡ false) × ((j : ℕ) → j < i → getD (true ∷ l) j true ≡ true)
-    behind none ih e = (absurd (none-some i e), cc, λ j h. cc)
-    behind (some j) ih e =
+    in-the-rest none ih e = (absurd (none-some i e), cc, λ j h. cc)
+    in-the-rest (some j) ih e =
         let q : 1 + j ≡ i = cc in
         let d : i ≡ suc j = omega arith in
         let (a, b, c) = ih j refl in
