@@ -3,9 +3,9 @@ pub mod InOrder
 pub mod Refusals
 pub mod Running
 pub mod Loading
-pub mod PaperTyped
 pub mod OpenList
 pub mod Replying
+pub mod PaperTyped
 pub mod GoodStays
 pub mod OnGoodStates
 pub mod Alive

@@ -60,7 +60,8 @@ typeFrom q (fList e) = tList (q e)
 typeFrom q (fTuple ts) = tTuple (elemsFrom q ts)
 typeFrom q (fFun s ps r) = tFun s (argsFrom q ps) (q r)
 
--- by going down through its parts, "each of a smaller number". A number beyond the table makes a Str; no row of legal form states one
+-- by going down: "Each type referred to has a smaller number than its user". A number beyond the table makes a Str; no row of legal
+-- form states one
 unfoldable pub typeBelow : (ℕ → Form) → ℕ → ℕ → Ty
 typeBelow form zero t = tBase Str
 typeBelow form (suc d) t = typeFrom (typeBelow form d) (form t)

@@ -1,7 +1,7 @@
 -- A type row that passes is told by its form: so two numbers of a table that passes have one form only if they are equal. Assumes nothing.
 use Prim.Native.Nat.{ℕ, zero, suc, _+_, _*_, _≤_, _<_}
 use mathlib.Core.Path.{_≡_, refl, ap, sym, _∙_}
-use mathlib.Core.Bool.{true, false}
+use mathlib.Core.Bool.{true}
 use mathlib.Core.List.{List, [], _∷_}
 use mathlib.Core.Option.{none}
 use native.Mathlib.Omega.{arith}
@@ -9,12 +9,12 @@ use borrow.Author.Tests.{eqb-true, leb-true}
 use lib.ListN.{length, take, drop, getD, length-drop}
 use lib.Seq.{drop-drop, length-take-le}
 use Rattle.meaning.specs.Bytes.{zeros}
-use Rattle.meaning.specs.Types.{Base, Str, File, Truth, Side, ntv, frn, Param, Form, absent, base, fList, fTuple, fFun, types, names, pairs, formNo, partsNo, result, parts, formRow, formOf, lastForm, plainOk, listOk, tupleOk, functionOk, fieldsOk, typeOk, badType}
+use Rattle.meaning.specs.Types.{Base, Str, File, Truth, Side, ntv, frn, Param, absent, base, types, names, pairs, formNo, partsNo, result, parts, formRow, formOf, plainOk, listOk, tupleOk, functionOk, fieldsOk, typeOk, badType}
 use Rattle.meaning.specs.Typing.{baseNo}
 use Rattle.meaning.specs.Records.{version}
 use Rattle.meaning.proofs.Trees.Tests.{left, right, within-if}
 use Rattle.meaning.proofs.Bytes.Layouts.{Wide, each-at}
-use Rattle.meaning.proofs.Bytes.TypeTables.{RowForm, formless, ofBase, ofList, ofTuple, ofFun, row-form, sideNo, list-row, tuple-row, fun-row, no-bad-type, equal-types, promised}
+use Rattle.meaning.proofs.Bytes.TypeTables.{formless, ofBase, ofList, ofTuple, ofFun, row-form, sideNo, list-row, tuple-row, fun-row, no-bad-type, equal-types, promised}
 
 -- Lists of pairs -------------------------------------------------------------------------------------------------
 

@@ -7,11 +7,11 @@ use mathlib.Core.Option.{Option, none, some}
 use native.Mathlib.Omega.{arith}
 use native.Mathlib.Decide.{ℕ-discrete, decLt}
 use borrow.Author.Tests.{leb-true, lt-ltb, ltb-true, ne-eqb, not-true}
-use lib.Dec.{eqb, leb, ltb}
+use lib.Dec.{eqb, ltb}
 use lib.ListN.{length, take, getD, length-append, List·getD-eq-default}
 use lib.Seq.{append-snoc, length-take-le, getD-take}
 use Rattle.meaning.specs.Bytes.{_∧ᵇ_}
-use Rattle.meaning.specs.Types.{Base, Str, File, Truth, Side, ntv, frn, Param, Form, absent, base, fList, fTuple, fFun, types, names, formNo, partsNo, result, parts, formRow, formOf, every, groundForm, groundBelow, ground, lastForm, distinct, below, nonzero, listOk, tupleOk, namesOk, functionOk, fieldsOk, fresh, groundCall, typeOk, badTypeFrom, badType, sameNumbers}
+use Rattle.meaning.specs.Types.{Base, Str, File, Truth, Side, ntv, frn, Param, Form, absent, base, fList, fTuple, fFun, types, names, formNo, partsNo, result, parts, formRow, formOf, every, groundForm, groundBelow, ground, lastForm, distinct, below, listOk, tupleOk, namesOk, functionOk, fieldsOk, fresh, groundCall, typeOk, badTypeFrom, badType, sameNumbers}
 use Rattle.meaning.specs.Typing.{baseNo}
 use Rattle.meaning.specs.Records.{version}
 use Rattle.meaning.proofs.Trees.Tests.{left, right, both, within-if, numbers-same, none-some}

@@ -9,10 +9,12 @@ use Rattle.meaning.specs.Bytes.{Limits}
 use Rattle.meaning.specs.Types.{formOf, empty}
 use Rattle.meaning.specs.Terms.{Tree, tyOf}
 use Rattle.meaning.specs.Typing.{Typed}
+use Rattle.meaning.specs.Paper.{noArg, typeOf, Has}
 use Rattle.meaning.specs.Steps.{Call, go, step, value, Awaited, awaited}
 use Rattle.meaning.specs.Records.{State, recordOf, stateOf, sound, listed}
 use Rattle.meaning.proofs.Bytes.Records.{Small, Good, state-record, sound-record}
 use Rattle.meaning.proofs.Steps.Progress.{Progress, done, moves, waits, progress, awaited-listed}
+use Rattle.meaning.proofs.Entries.PaperTyped.{good-has}
 
 -- "it is a value, or a rule applies, or it holds a call still open, under the same type, where the rules look"
 pub data Moment (s : State) : Type 0 where
@@ -40,6 +42,7 @@ pub record Alive (m : Limits) (types : List (List ℕ)) (p : ℕ) (b : List ℕ)
   pub same-program : stateOf m b .program ≡ p
   pub typed : Typed (formOf (stateOf m b .types)) empty (stateOf m b .tree)
   pub of-type : tyOf (stateOf m b .tree) ≡ p
+  pub has-type : Has (typeOf (formOf types)) noArg (stateOf m b .tree) (typeOf (formOf types) p)
   pub moment : Moment (stateOf m b)
 
 -- and of a state, by its record
@@ -58,6 +61,7 @@ lives-state m k types p s g o =
         same-program = ap (λ (x : State). x .program) r ∙ o .same-program;
         typed = rw r (g .typed);
         of-type = rw r (g .program ∙ o .same-program);
+        has-type = rw (r, ← o .same-types, ← o .same-program) (good-has m s g);
         moment = rw r (good-moment m s g);
       };
     }

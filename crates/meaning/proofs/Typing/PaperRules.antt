@@ -10,7 +10,7 @@ use lib.Dec.{eqb}
 use Rattle.meaning.specs.Types.{Base, Side, ntv, Param, Form, absent, base, fList, fTuple, fFun, params, types, every, below, Ctx, empty, pick, find, _⹁_, place, low, rest}
 use Rattle.meaning.specs.Terms.{str, file, truth, Head, lit, var, lambda, foreign, apply, future, ite, fix, nil, cons, isnil, zip, tuple, project, lproject, bind, arity, code, is, headOf, Tree, Forest, node, end, more, tyOf}
 use Rattle.meaning.specs.Typing.{litBase, list, tys, firstIs, belowOk, Zipped, Masked, Rule, scope, Typed, TypedF}
-use Rattle.meaning.specs.Paper.{Ty, tBase, tList, tTuple, tFun, Elems, noElem, elem, Args, noArg, arg, elemsFrom, argsFrom, typeFrom, typeOf, named, _⊹_, argTypes, elemAt, covered, lifted, Has, ByRule, HasAll, row, rStr, rFile, rTruth, rVar, rNative, rForeign, rApply, rFuture, rIf, rFix, rNil, rCons, rIsnil, rZip, rTuple, rProject, rLproject, rLet, rEnd, rMore}
+use Rattle.meaning.specs.Paper.{Ty, tBase, tList, tTuple, tFun, Elems, elem, Args, noArg, arg, elemsFrom, argsFrom, typeFrom, typeOf, named, _⊹_, argTypes, elemAt, covered, lifted, Has, ByRule, HasAll, row, rStr, rFile, rTruth, rVar, rNative, rForeign, rApply, rFuture, rIf, rFix, rNil, rCons, rIsnil, rZip, rTuple, rProject, rLproject, rLet, rEnd, rMore}
 use Rattle.meaning.proofs.Trees.Tests.{left, right, both, none-some}
 use Rattle.meaning.proofs.Trees.ByKind.{lambda-is, below-lit}
 use Rattle.meaning.proofs.Trees.EachRow.{Fact, Every, Everys}
@@ -28,6 +28,16 @@ every-up t count h [] e = refl
 every-up t count h (n ∷ ts) e =
     let l = below-if t n (left _ _ e) in
     both _ _ (below-of count n (omega arith)) (every-up t count h ts (right _ _ e))
+
+-- the types that rows state stand in the table
+pub ty-below : (count : ℕ) (t : Tree) → Every (InTable count) t → tyOf t < count
+unfolding tyOf Every
+ty-below count (node h u f) (i, _) = i .0
+
+tys-below : {n : ℕ} (count : ℕ) (f : Forest n) → Everys (InTable count) f → every (below count) (list (tys f)) ≡ true
+unfolding tys list every Everys
+tys-below count end d = refl
+tys-below count (more t f) (i, d) = both _ _ (below-of count (tyOf t) (ty-below count t i)) (tys-below count f d)
 
 -- Numbers against trees --------------------------------------------------------------------------------------------
 
@@ -280,16 +290,6 @@ module _ (form : ℕ → Form) (count : ℕ) (good : Promises form count) where
         let a : t .args ≡ record { name = x; type = u } ∷ v .args = o ∙ (λ i. record { name = x; type = p i } ∷ q i) in
         (v .args, v .result, t .of-form ∙ cc, v .of-form)
 
-    -- the type of a row's number, of the rows of a list
-    ty-below : (t : Tree) → Every (InTable count) t → tyOf t < count
-    unfolding tyOf Every
-    ty-below (node h u f) (i, _) = i .0
-
-    tys-below : {n : ℕ} (f : Forest n) → Everys (InTable count) f → every (below count) (list (tys f)) ≡ true
-    unfolding tys list every Everys
-    tys-below end d = refl
-    tys-below (more t f) (i, d) = both _ _ (below-of count (tyOf t) (ty-below t i)) (tys-below f d)
-
     mutual
       unfolding Typed Rule litBase scope tys tyOf belowOk firstIs is code headOf list params Every _⹁_ pick find _⊹_ argsFrom elemsFrom types every
 
@@ -307,23 +307,23 @@ module _ (form : ℕ → Form) (count : ℕ) (good : Promises form count) where
       rule-typed (rNative {Γ = Δ} {ps = Ps} {b} {T} h) Γ u a i e (ib, _) =
           let t = fun-told u ntv Ps T i e in
           let (k, q) = has-typed h (Γ ⹁ t .args) (subst (λ (z : Args). Agrees stands count (Γ ⹁ t .args) (Δ ⊹ z)) (t .args-are) (agrees-more stands count Γ Δ (t .args) (t .args-below) a)) ib in
-          let r : t .result ≡ tyOf b = one (t .result) (tyOf b) (t .result-below) (ty-below b ib) (t .result-is ∙ sym q) in
+          let r : t .result ≡ tyOf b = one (t .result) (tyOf b) (t .result-below) (ty-below count b ib) (t .result-is ∙ sym q) in
           ((t .args, t .of-form ∙ ap (fFun ntv (t .args)) r), refl, (rw (t .of-form) k, tt))
       rule-typed (rForeign {ps = Ps} {T} g gs) Γ u a i e d = let t = fun-told u _ Ps T i e in ((t .args, t .result, t .of-form), refl, tt)
       rule-typed (rApply {ps = Ps} {s} {c} {args} {T} h hs) Γ u a i e (ic, ia) =
           let (k, q) = has-typed h Γ a ic in
-          let t = fun-told (tyOf c) s Ps T (ty-below c ic) q in
+          let t = fun-told (tyOf c) s Ps T (ty-below count c ic) q in
           let (ks, qs) = all-typed hs Γ a ia in
           let r : t .result ≡ u = one (t .result) u (t .result-below) i (t .result-is ∙ sym e) in
           let l : list (tys args) ≡ types (t .args) =
-          one-list (list (tys args)) (types (t .args)) (tys-below args ia) (t .args-below) (qs ∙ ap argTypes (sym (t .args-are)) ∙ sym (arg-types stands (t .args))) in
+          one-list (list (tys args)) (types (t .args)) (tys-below count args ia) (t .args-below) (qs ∙ ap argTypes (sym (t .args-are)) ∙ sym (arg-types stands (t .args))) in
           ((s, t .args, t .of-form ∙ ap (fFun s (t .args)) r, l), refl, (k, ks))
       rule-typed rFuture Γ u a i e d = (tt, refl, tt)
       rule-typed (rIf {c} {a = x} {b = y} hc hx hy) Γ u a i e (ic, (ix, (iy, _))) =
           let (kc, qc) = has-typed hc Γ a ic in
           let (kx, qx) = has-typed hx Γ a ix in
           let (ky, qy) = has-typed hy Γ a iy in
-          ((base-told (tyOf c) _ (ty-below c ic) qc, one (tyOf x) u (ty-below x ix) i (qx ∙ sym e), one (tyOf y) u (ty-below y iy) i (qy ∙ sym e)), refl, (kc, (kx, (ky, tt))))
+          ((base-told (tyOf c) _ (ty-below count c ic) qc, one (tyOf x) u (ty-below count x ix) i (qx ∙ sym e), one (tyOf y) u (ty-below count y iy) i (qy ∙ sym e)), refl, (kc, (kx, (ky, tt))))
       rule-typed (rFix {ps = Ps} {n} {x} {b} {T} h) Γ u a i e (ic, _) =
           let (k, q) = has-typed h Γ a ic in
           let (ps, r, o, o′) = fix-told n u x Ps T (ic .0 .0) i q e in
@@ -333,14 +333,14 @@ module _ (form : ℕ → Form) (count : ℕ) (good : Promises form count) where
           let (kx, qx) = has-typed hx Γ a ix in
           let (ky, qy) = has-typed hy Γ a iy in
           let (n, o, l, p) = list-told u T i e in
-          ((o ∙ ap fList (one n (tyOf x) l (ty-below x ix) (p ∙ sym qx)), one (tyOf y) u (ty-below y iy) i (qy ∙ sym e)), refl, (kx, (ky, tt)))
+          ((o ∙ ap fList (one n (tyOf x) l (ty-below count x ix) (p ∙ sym qx)), one (tyOf y) u (ty-below count y iy) i (qy ∙ sym e)), refl, (kx, (ky, tt)))
       rule-typed (rIsnil {c} {T} h) Γ u a i e (ic, _) =
           let (k, q) = has-typed h Γ a ic in
-          let (n, o, l, p) = list-told (tyOf c) T (ty-below c ic) q in
+          let (n, o, l, p) = list-told (tyOf c) T (ty-below count c ic) q in
           ((base-told u _ i e, (n, o)), refl, (k, tt))
       rule-typed (rZip {ps = Ps} {qs = Qs} {m} {s} {c} {T} g y h x) Γ u a i e (ic, _) =
           let (k, q) = has-typed h Γ a ic in
-          let t = fun-told (tyOf c) s Ps T (ty-below c ic) q in
+          let t = fun-told (tyOf c) s Ps T (ty-below count c ic) q in
           let v = fun-told u s Qs (tList T) i e in
           let (n, o, l, p) = list-told (v .result) T (v .result-below) (v .result-is) in
           let r : n ≡ t .result = one n (t .result) l (t .result-below) (p ∙ sym (t .result-is)) in
@@ -349,15 +349,15 @@ module _ (form : ℕ → Form) (count : ℕ) (good : Promises form count) where
       rule-typed (rTuple {f} {Ts} hs) Γ u a i e d =
           let (ks, qs) = all-typed hs Γ a d in
           let (ts, o, l, p) = tuple-told u Ts i e in
-          (o ∙ ap fTuple (one-list ts (list (tys f)) l (tys-below f d) (p ∙ sym qs)), refl, ks)
+          (o ∙ ap fTuple (one-list ts (list (tys f)) l (tys-below count f d) (p ∙ sym qs)), refl, ks)
       rule-typed (rProject {i = j} {c} {Ts} {T} h y) Γ u a i e (ic, _) =
           let (k, q) = has-typed h Γ a ic in
-          let (ts, o, l, p) = tuple-told (tyOf c) Ts (ty-below c ic) q in
+          let (ts, o, l, p) = tuple-told (tyOf c) Ts (ty-below count c ic) q in
           let (v, z, w, x) = at-elem stands count j ts T l (rw p y) in
           ((ts, o, z ∙ ap some (one v u w i (x ∙ sym e))), refl, (k, tt))
       rule-typed (rLproject {i = j} {c} {Ts} {T} h y) Γ u a i e (ic, _) =
           let (k, q) = has-typed h Γ a ic in
-          let (n, o, l, p) = list-told (tyOf c) (tTuple Ts) (ty-below c ic) q in
+          let (n, o, l, p) = list-told (tyOf c) (tTuple Ts) (ty-below count c ic) q in
           let (ts, o′, l′, p′) = tuple-told n Ts l p in
           let (v, z, w, x) = at-elem stands count j ts T l′ (rw p′ y) in
           let (n″, o″, l″, p″) = list-told u T i e in
@@ -366,8 +366,8 @@ module _ (form : ℕ → Form) (count : ℕ) (good : Promises form count) where
       rule-typed (rLet {Γ = Δ} {x} {a = c} {b} {U} {T} hc hb) Γ u a i e (ic, (ib, _)) =
           let (kc, qc) = has-typed hc Γ a ic in
           let ps : List Param = record { name = x; type = tyOf c } ∷ [] in
-          let (kb, qb) = has-typed hb (Γ ⹁ ps) (subst (λ (z : Ty). Agrees stands count (Γ ⹁ ps) (Δ ⊹ arg x z noArg)) qc (agrees-more stands count Γ Δ ps (both _ _ (below-of count (tyOf c) (ty-below c ic)) refl) a)) ib in
-          (one (tyOf b) u (ty-below b ib) i (qb ∙ sym e), refl, (kc, (kb, tt)))
+          let (kb, qb) = has-typed hb (Γ ⹁ ps) (subst (λ (z : Ty). Agrees stands count (Γ ⹁ ps) (Δ ⊹ arg x z noArg)) qc (agrees-more stands count Γ Δ ps (both _ _ (below-of count (tyOf c) (ty-below count c ic)) refl) a)) ib in
+          (one (tyOf b) u (ty-below count b ib) i (qb ∙ sym e), refl, (kc, (kb, tt)))
 
       all-typed : {n : ℕ} {Δ : Args} {f : Forest n} {Ts : Elems} → HasAll stands n Δ f Ts → (Γ : Ctx) → Agrees stands count Γ Δ → Everys (InTable count) f
           → TypedF form Γ none-bound f × (elemsFrom stands (list (tys f)) ≡ Ts)

@@ -1,6 +1,6 @@
 -- What the numbers of a table that passes stand for: each the tree of its form, and two numbers one tree only if they are equal.
 -- Assumes nothing.
-use Prim.Native.Nat.{ℕ, zero, suc, _≤_, _<_}
+use Prim.Native.Nat.{ℕ, zero, suc, _<_}
 use mathlib.Core.Path.{_≡_, refl, ap, sym, _∙_}
 use mathlib.Core.Bool.{Bool, true}
 use mathlib.Core.Logic.{_↔_}
@@ -12,7 +12,7 @@ use lib.Dec.{ltb}
 use lib.ListN.{length}
 use Rattle.meaning.specs.Bytes.{_∧ᵇ_}
 use Rattle.meaning.specs.Types.{Base, Side, Param, Form, absent, base, fList, fTuple, fFun, types, every, below, groundForm, ground, formOf, badType}
-use Rattle.meaning.specs.Paper.{Ty, tBase, tList, tTuple, tFun, Elems, noElem, elem, Args, noArg, arg, isGround, allGround, elemsFrom, argsFrom, typeFrom, typeBelow, typeOf}
+use Rattle.meaning.specs.Paper.{Ty, tBase, tList, tTuple, tFun, Elems, elem, Args, isGround, allGround, elemsFrom, argsFrom, typeFrom, typeBelow, typeOf}
 use Rattle.meaning.specs.Records.{version}
 use Rattle.meaning.proofs.Trees.Tests.{left, right, both}
 use Rattle.meaning.proofs.Bytes.Layouts.{Wide}
