@@ -26,7 +26,7 @@ use Rattle.meaning.proofs.Bytes.Records.{Small, arm-small, Good}
 use Rattle.meaning.proofs.Typing.GroundValues.{Plain}
 use Rattle.meaning.proofs.Steps.Sends.{sent-type}
 use Rattle.meaning.proofs.Steps.EachRowKept.{Parts, legal-step, listed-step}
-use Rattle.meaning.proofs.Entries.Running.{stepOf, MaySend, behindStep, Passes}
+use Rattle.meaning.proofs.Entries.Running.{stepOf, MaySend, behindStep, PassesTo}
 use Rattle.meaning.proofs.Entries.OpenList.{each-append, each-more, rises-with, listed-with, listed-new, length-with, each-without, length-without, rises-without, listed-without}
 use Rattle.meaning.proofs.Entries.Replying.{reply-tree, accepted-reply, plain-reply}
 
@@ -187,5 +187,5 @@ unfolding behindStep
 behind-stays m b s g none u e may h = quiet-stays m b s g u e h
 behind-stays m b s g (some c) u e may h = send-stays m b s g c u e may h
 
-pub step-stays : (m : Limits) → Board m → (s u : State) (c : Option Call) → Passes m s c u → Good m s → Good m u
+pub step-stays : (m : Limits) → Board m → (s u : State) (c : Option Call) → PassesTo m s c u → Good m s → Good m u
 step-stays m b s u c p g = rw (p .state) (behind-stays m b s g c (p .tree) (p .steps) (p .may) (p .room))

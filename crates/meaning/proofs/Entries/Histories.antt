@@ -25,7 +25,7 @@ use Rattle.meaning.specs.declared.Run.the-variants.{Ran}
 use Rattle.meaning.proofs.Trees.Tests.{both}
 use Rattle.meaning.proofs.Bytes.Layouts.{AllBytes, Each}
 use Rattle.meaning.proofs.Bytes.Records.{Good, good-state, record-state, state-record}
-use Rattle.meaning.proofs.Entries.Running.{Stops, behindStep, Passes}
+use Rattle.meaning.proofs.Entries.Running.{Halts, behindStep, PassesTo}
 use Rattle.meaning.proofs.Entries.GoodStays.{Board, step-stays, reply-stays}
 use Rattle.meaning.proofs.Entries.OnGoodStates.{load-writes, run-good, run-short, reply-good, reply-short}
 use Rattle.meaning.proofs.Entries.Alive.{Of, Alive, Lives, lives-state}
@@ -204,8 +204,8 @@ sends-lower : (low mid high : ℕ) (ks : List ℕ) → low ≤ mid → Sends mid
 sends-lower low mid high ks h (silent e q) = silent e (omega arith)
 sends-lower low mid high ks h (one k e q r) = one k e (omega arith) r
 
-stopped-silent : (m : Limits) (s : State) (a : Answer) (n : ℕ) → Stops m s a → sentIn (Ran a n) ≡ []
-unfolding Stops sentIn
+stopped-silent : (m : Limits) (s : State) (a : Answer) (n : ℕ) → Halts m s a → sentIn (Ran a n) ≡ []
+unfolding Halts sentIn
 stopped-silent m s Value n h = refl
 stopped-silent m s Waiting n h = refl
 stopped-silent m s (Sent k) n h = absurd h
@@ -214,7 +214,7 @@ stopped-silent m s Budget n h = refl
 stopped-silent m s Room n h = refl
 stopped-silent m s Numbers n h = refl
 
-step-next : (m : Limits) (s u : State) (c : Option Call) → Passes m s c u → s .next ≤ u .next
+step-next : (m : Limits) (s u : State) (c : Option Call) → PassesTo m s c u → s .next ≤ u .next
 unfolding behindStep stepped sent
 step-next m s u c p = rw (p .state) (later c)
   where

@@ -32,7 +32,7 @@ use Rattle.meaning.proofs.Typing.GroundValues.{Plain, grounds-plain}
 use Rattle.meaning.proofs.Steps.Sends.{Sender, sent-from, Arguments, sending-args, sent-args}
 use Rattle.meaning.proofs.Entries.Loading.{accepted-legal}
 use Rattle.meaning.proofs.Entries.OpenList.{listed-new}
-use Rattle.meaning.proofs.Entries.Running.{Stops, behindStep, Passes}
+use Rattle.meaning.proofs.Entries.Running.{Halts, behindStep, PassesTo}
 use Rattle.meaning.proofs.Entries.GoodStays.{Board, step-stays, reply-stays}
 use Rattle.meaning.proofs.Entries.Alive.{Of}
 use Rattle.meaning.proofs.Entries.Paths.{RunPath, ends-halted, ends-spent, ends-sent, goes-on, lastState, run-traced, path-keeps, each-last, step-of}
@@ -40,7 +40,7 @@ use Rattle.meaning.proofs.Entries.Reports.{answered, answered-walk}
 
 -- A send on a good state -------------------------------------------------------------------------------------------
 
-module _ (m : Limits) (k : Board m) (s : State) (g : Good m s) (c : Call) (u : State) (p : Passes m s (some c) u) where
+module _ (m : Limits) (k : Board m) (s : State) (g : Good m s) (c : Call) (u : State) (p : PassesTo m s (some c) u) where
   sender : Sender (formOf (s .types)) (s .next) c (flat (s .tree))
   sender = sent-from (formOf (s .types)) (s .next) (s .tree) c (p .tree) (g .typed) (p .steps)
 
@@ -97,7 +97,7 @@ module _ (m : Limits) (k : Board m) (s : State) (g : Good m s) (c : Call) (u : S
 record Called (m : Limits) (s : State) (us : List State) (k : ℕ) (l : List ℕ) : Type 0 where
   from : State
   call : Call
-  passes : Passes m from (some call) (lastState s us)
+  passes : PassesTo m from (some call) (lastState s us)
   good : Good m from
   of-program : Of (s .types) (s .program) from
   number : from .next ≡ k
@@ -109,13 +109,13 @@ sent-same j k e = cc
 budget-sent : (k : ℕ) → Budget ≡ Sent k → ⊥
 budget-sent k e = let z : _≡_ {A = ℕ} 0 1 = cc in omega arith
 
-stops-sent : (m : Limits) (s : State) (a : Answer) (k : ℕ) → a ≡ Sent k → Stops m s a → ⊥
-unfolding Stops
-stops-sent m s a k e h = rw e at h
+halts-sent : (m : Limits) (s : State) (a : Answer) (k : ℕ) → a ≡ Sent k → Halts m s a → ⊥
+unfolding Halts
+halts-sent m s a k e h = rw e at h
 
 path-called : (m : Limits) → Board m → {b : ℕ} {s : State} {us : List State} {a : Answer} {l : List ℕ} → RunPath m b s us a l → Good m s → (k : ℕ) → a ≡ Sent k → Called m s us k l
 unfolding lastState
-path-called m b (ends-halted {budget} {s} {a} h) g k e = absurd (stops-sent m s a k e h)
+path-called m b (ends-halted {budget} {s} {a} h) g k e = absurd (halts-sent m s a k e h)
 path-called m b (ends-spent p) g k e = absurd (budget-sent k e)
 path-called m b (ends-sent {budget} {s} {u} {c} p) g k e =
     let q = sent-same (s .next) k e in
@@ -171,7 +171,7 @@ unfolding AllRows Each replyKind raw
 plain-kinds [] d = tt
 plain-kinds (r ∷ l) (e, d) = (e, plain-kinds l d)
 
-sent-listed : (m : Limits) (s u : State) (c : Call) → Good m s → Passes m s (some c) u → listed (u .calls) (s .next) ≡ some (c .result)
+sent-listed : (m : Limits) (s u : State) (c : Call) → Good m s → PassesTo m s (some c) u → listed (u .calls) (s .next) ≡ some (c .result)
 unfolding behindStep sent
 sent-listed m s u c g p = rw (p .state) (listed-new (s .calls) (record { number = s .next; type = c .result }) (g .callsBelow))
 

@@ -17,7 +17,7 @@ use Rattle.meaning.specs.declared.Answer.the-variants.{Sent, Budget}
 use Rattle.meaning.specs.declared.Run.the-variants.{Ran}
 use Rattle.meaning.proofs.Bytes.Layouts.{AllBytes, Each}
 use Rattle.meaning.proofs.Bytes.Records.{Good, good-state}
-use Rattle.meaning.proofs.Entries.Running.{Stops, behindStep, Passes, stops-when, passes-when, stops-of, passes-of, passes-none, passes-next}
+use Rattle.meaning.proofs.Entries.Running.{Halts, behindStep, PassesTo, halts-when, passes-when, halts-of, passes-of, passes-none, passes-next}
 use Rattle.meaning.proofs.Entries.OpenList.{each-more}
 use Rattle.meaning.proofs.Entries.GoodStays.{Board, step-stays}
 use Rattle.meaning.proofs.Entries.Alive.{Of, Lives, lives-state}
@@ -27,13 +27,13 @@ use Rattle.meaning.proofs.Entries.Alive.{Of, Lives, lives-state}
 -- from state s, with a budget: the states behind s, one for each step made; the answer; the bytes of the call sent, if one is
 pub data RunPath (m : Limits) : ℕ → State → List State → Answer → List ℕ → Type 0 where
   -- VALUE, WAITING, HELD, NUMBERS or ROOM: the first line of the table that holds
-  ends-halted : {budget : ℕ} {s : State} {a : Answer} → Stops m s a → RunPath m budget s [] a []
+  ends-halted : {budget : ℕ} {s : State} {a : Answer} → Halts m s a → RunPath m budget s [] a []
   -- none of them holds, and BUDGET does: the budget's steps are made
-  ends-spent : {s u : State} {c : Option Call} → Passes m s c u → RunPath m 0 s [] Budget []
+  ends-spent : {s u : State} {c : Option Call} → PassesTo m s c u → RunPath m 0 s [] Budget []
   -- none of them holds: the step is made and sends. "A send counts as a step and ends the run with 2 SENT"
-  ends-sent : {budget : ℕ} {s u : State} {c : Call} → Passes m s (some c) u → RunPath m (suc budget) s (u ∷ []) (Sent (s .next)) (letterOf (s .next) c)
+  ends-sent : {budget : ℕ} {s u : State} {c : Call} → PassesTo m s (some c) u → RunPath m (suc budget) s (u ∷ []) (Sent (s .next)) (letterOf (s .next) c)
   -- none of them holds: the step is made and sends nothing, and the run goes on
-  goes-on : {budget : ℕ} {s u : State} {us : List State} {a : Answer} {l : List ℕ} → Passes m s none u → RunPath m budget u us a l → RunPath m (suc budget) s (u ∷ us) a l
+  goes-on : {budget : ℕ} {s u : State} {us : List State} {a : Answer} {l : List ℕ} → PassesTo m s none u → RunPath m budget u us a l → RunPath m (suc budget) s (u ∷ us) a l
 
 -- the last state
 unfoldable pub lastState : State → List State → State
@@ -60,12 +60,12 @@ pub record Traced (m : Limits) (budget : ℕ) (s : State) (e : Ended) : Type 0 w
 
 ended-traced : (m : Limits) (s : State) (t : Try) → try m s ≡ t → Traced m 0 s (ended s t)
 unfolding ended lastState
-ended-traced m s (halt a) e = record { states = []; path = ends-halted (stops-when m s a e); made = refl; last = refl }
+ended-traced m s (halt a) e = record { states = []; path = ends-halted (halts-when m s a e); made = refl; last = refl }
 ended-traced m s (pass c u) e = record { states = []; path = ends-spent (passes-when m s c u e); made = refl; last = refl }
 
 onward-traced : (m : Limits) (b : ℕ) (s : State) (k : State → Ended) (t : Try) → try m s ≡ t → ((u : State) → Traced m b u (k u)) → Traced m (suc b) s (onward s t k)
 unfolding onward again lastState
-onward-traced m b s k (halt a) e h = record { states = []; path = ends-halted (stops-when m s a e); made = refl; last = refl }
+onward-traced m b s k (halt a) e h = record { states = []; path = ends-halted (halts-when m s a e); made = refl; last = refl }
 onward-traced m b s k (pass none u) e h =
     let w = h u in
     record { states = u ∷ w .states; path = goes-on (passes-when m s none u e) (w .path); made = ap suc (w .made); last = w .last }
@@ -97,7 +97,7 @@ Turn m (suc b) s (pass none u) us a l = (vs : List State) × (us ≡ u ∷ vs) �
 
 turn : (m : Limits) {b : ℕ} {s : State} {us : List State} {a : Answer} {l : List ℕ} → RunPath m b s us a l → Turn m b s (try m s) us a l
 unfolding Turn
-turn m (ends-halted {budget} {s} {a} h) = rw (stops-of m s a h) (refl, refl, refl)
+turn m (ends-halted {budget} {s} {a} h) = rw (halts-of m s a h) (refl, refl, refl)
 turn m (ends-spent {s} {u} {c} p) = rw (passes-of m s c u p) (refl, refl, refl)
 turn m (ends-sent {budget} {s} {u} {c} p) = rw (passes-of m s (some c) u p) (refl, refl, refl)
 turn m (goes-on {budget} {s} {u} {us} p w) = rw (passes-of m s none u p) (us, refl, w)
@@ -123,11 +123,11 @@ path-one m zero s us vs a c l k p q = turn-none m s (try m s) us vs a c l k (tur
 path-one m (suc b) s us vs a c l k p q = turn-one m b s (try m s) us vs a c l k (λ u us vs. path-one m b u us vs a c l k) (turn m p) (turn m q)
 
 -- so where VALUE, WAITING, HELD, NUMBERS or ROOM holds, a run goes no further
-pub path-at-stop : (m : Limits) (budget : ℕ) (s : State) (x : Answer) (us : List State) (a : Answer) (l : List ℕ) → Stops m s x → RunPath m budget s us a l → (us ≡ []) × (a ≡ x) × (l ≡ [])
+pub path-at-stop : (m : Limits) (budget : ℕ) (s : State) (x : Answer) (us : List State) (a : Answer) (l : List ℕ) → Halts m s x → RunPath m budget s us a l → (us ≡ []) × (a ≡ x) × (l ≡ [])
 path-at-stop m budget s x us a l h p = path-one m budget s us [] a x l [] p (ends-halted h)
 
 -- and it stops at a send
-pub path-at-send : (m : Limits) (budget : ℕ) (s : State) (c : Call) (u : State) (us : List State) (a : Answer) (l : List ℕ) → Passes m s (some c) u → RunPath m (suc budget) s us a l
+pub path-at-send : (m : Limits) (budget : ℕ) (s : State) (c : Call) (u : State) (us : List State) (a : Answer) (l : List ℕ) → PassesTo m s (some c) u → RunPath m (suc budget) s us a l
     → (us ≡ u ∷ []) × (a ≡ Sent (s .next)) × (l ≡ letterOf (s .next) c)
 path-at-send m budget s c u us a l h p = path-one m (suc budget) s us (u ∷ []) a (Sent (s .next)) l (letterOf (s .next) c) p (ends-sent h)
 
@@ -146,7 +146,7 @@ walk-one m kept budget a c n j x y z t v w =
 -- Along a path -----------------------------------------------------------------------------------------------------
 
 -- what every step that is made keeps, holds at each state
-pub path-keeps : (m : Limits) (P : State → Type 0) → ((s u : State) (c : Option Call) → Passes m s c u → P s → P u)
+pub path-keeps : (m : Limits) (P : State → Type 0) → ((s u : State) (c : Option Call) → PassesTo m s c u → P s → P u)
     → {b : ℕ} {s : State} {us : List State} {a : Answer} {l : List ℕ} → RunPath m b s us a l → P s → Each P us
 unfolding Each
 path-keeps m P h (ends-halted e) p = tt
@@ -159,7 +159,7 @@ unfolding Each lastState
 each-last P s [] p d = p
 each-last P s (u ∷ us) p (q, d) = each-last P u us q d
 
-pub run-keeps : (m : Limits) (P : State → Type 0) → ((s u : State) (c : Option Call) → Passes m s c u → P s → P u) → (budget : ℕ) (s : State) → P s → P (runs m budget s .state)
+pub run-keeps : (m : Limits) (P : State → Type 0) → ((s u : State) (c : Option Call) → PassesTo m s c u → P s → P u) → (budget : ℕ) (s : State) → P s → P (runs m budget s .state)
 run-keeps m P h budget s p = let w = run-traced m budget s in rw (← w .last) (each-last P s (w .states) p (path-keeps m P h (w .path) p))
 
 -- at each of s0 .. s(n-1): none of VALUE, WAITING, HELD, NUMBERS and ROOM holds, the budget is not spent, and the next state is the defined one
@@ -169,11 +169,11 @@ stateAt s [] (suc i) = s
 stateAt s (u ∷ us) (suc i) = stateAt u us i
 
 pub record Goes (m : Limits) (budget : ℕ) (s : State) (us : List State) (i : ℕ) : Type 0 where
-  pub no-line : (x : Answer) → Stops m (stateAt s us i) x → ⊥
+  pub no-line : (x : Answer) → Halts m (stateAt s us i) x → ⊥
   pub unspent : i < budget
   pub next : nextState (stateAt s us i) ≡ some (stateAt s us (suc i))
 
-passes-goes : (m : Limits) (b : ℕ) (s u : State) (c : Option Call) (us : List State) → Passes m s c u → Goes m (suc b) s (u ∷ us) 0
+passes-goes : (m : Limits) (b : ℕ) (s u : State) (c : Option Call) (us : List State) → PassesTo m s c u → Goes m (suc b) s (u ∷ us) 0
 unfolding stateAt
 passes-goes m b s u c us p = record { no-line = passes-none m s c u p; unspent = omega arith; next = passes-next m s c u p }
 
@@ -221,9 +221,9 @@ run-within m budget s = let w = run-traced m budget s in omega (arith, path-with
 -- how a path ends: an answer of the table holds of its last state; or the budget is spent and a step could be made; or its last step sent a call
 -- under the number that was next
 pub data PathEnds (m : Limits) (budget : ℕ) (s : State) (us : List State) (a : Answer) (l : List ℕ) : Type 0 where
-  stopped : Stops m (lastState s us) a → l ≡ [] → PathEnds m budget s us a l
-  spent : a ≡ Budget → length us ≡ budget → (c : Option Call) (u : State) → Passes m (lastState s us) c u → l ≡ [] → PathEnds m budget s us a l
-  called : (n : ℕ) (p : State) (c : Call) → length us ≡ suc n → afterSteps n s ≡ some p → Passes m p (some c) (lastState s us)
+  stopped : Halts m (lastState s us) a → l ≡ [] → PathEnds m budget s us a l
+  spent : a ≡ Budget → length us ≡ budget → (c : Option Call) (u : State) → PassesTo m (lastState s us) c u → l ≡ [] → PathEnds m budget s us a l
+  called : (n : ℕ) (p : State) (c : Call) → length us ≡ suc n → afterSteps n s ≡ some p → PassesTo m p (some c) (lastState s us)
       → a ≡ Sent (p .next) → l ≡ letterOf (p .next) c → PathEnds m budget s us a l
 
 ending-later : (m : Limits) (b : ℕ) (s u : State) (us : List State) (a : Answer) (l : List ℕ) → nextState s ≡ some u → PathEnds m b u us a l → PathEnds m (suc b) s (u ∷ us) a l
@@ -250,7 +250,7 @@ unfolding behindStep stepped sent
 behind-of types p s none u h = record { same-types = h .same-types; same-program = h .same-program }
 behind-of types p s (some c) u h = record { same-types = h .same-types; same-program = h .same-program }
 
-pub step-of : (m : Limits) (types : List (List ℕ)) (p : ℕ) (s u : State) (c : Option Call) → Passes m s c u → Of types p s → Of types p u
+pub step-of : (m : Limits) (types : List (List ℕ)) (p : ℕ) (s u : State) (c : Option Call) → PassesTo m s c u → Of types p s → Of types p u
 step-of m types p s u c q h = rw (q .state) (behind-of types p s c (q .tree) h)
 
 pub path-lives : (m : Limits) → Board m → (types : List (List ℕ)) (p : ℕ) {b : ℕ} {s : State} {us : List State} {a : Answer} {l : List ℕ}

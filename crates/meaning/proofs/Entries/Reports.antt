@@ -110,6 +110,13 @@ run-reports m k kept work budget a n h q =
       ends = path-ends m (w .path);
     }
 
+-- what a run's contract comes to: every outcome that it allows on a sound record is a walk
+pub says-walks : (m : Limits) (kept work : List ℕ) (budget : ℕ) (r : Run) (kept′ work′ : List ℕ) → RunSays m kept work budget r kept′ work′ → lent m kept work ≡ true → sound m kept ≡ true
+    → (a : Answer) × (n : ℕ) × (r ≡ Ran a n) × Walk m kept budget a n kept′ work′
+says-walks m kept work budget r kept′ work′ p l s =
+    let (a, n, e, w) = run-walks m kept work budget l s in
+    (a, n, p .answer ∙ e, record { states = w .states; letter = w .letter; path = w .path; made = w .made; kept-bytes = p .kept-bytes ∙ w .kept-bytes; work-bytes = p .work-bytes ∙ w .work-bytes })
+
 -- Replies on bytes -------------------------------------------------------------------------------------------------
 
 pub reply-verdict : (m : Limits) (kept work answer : List ℕ) → lent m kept work ≡ true → sound m kept ≡ true → reply m kept work answer .verdict ≡ replyVerdict m (stateOf m kept) answer
