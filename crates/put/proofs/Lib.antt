@@ -1,0 +1,5 @@
+pub mod Passing
+pub mod Turning
+pub mod Loops
+pub mod Meets
+pub mod Rows

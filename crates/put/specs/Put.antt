@@ -1,0 +1,111 @@
+-- Names put at once, row by row: which names are hidden in each tree still owed, and the rows that are written. Assumes nothing.
+use Prim.Native.Nat.{ℕ, zero, suc, _+_, _*_, _-_, _≤_, _<_}
+use mathlib.Core.Path.{_≡_}
+use mathlib.Core.Bool.{Bool, true, false, cond}
+use mathlib.Core.List.{List, [], _∷_, _++_, map}
+use mathlib.Core.Option.{Option, none, some}
+use lib.Dec.{eqb}
+use lib.ListN.{length, getD, take, drop}
+use Rattle.meaning.specs.Types.{Param, Form, params, find, low, rest}
+use Rattle.meaning.specs.Terms.{Head, arity, code, wordOf, Row, rowOf, size, sizes, treeAt, grove}
+use Rattle.meaning.specs.Steps.{_∨ᵇ_}
+
+unfoldable pub next : Option ℕ → Option ℕ
+next none = none
+next (some j) = some (suc j)
+
+-- the place of a name among those that are put, where those with a one in the mask are hidden (bit 0: the first)
+unfoldable pub pick : List ℕ → ℕ → ℕ → Option ℕ
+pick [] m x = none
+pick (y ∷ ys) m x = cond (eqb x y) (cond (low m) none (some 0)) (next (pick ys (rest m) x))
+
+unfoldable pub told : Option ℕ → Bool
+told none = false
+told (some t) = true
+
+-- the mask where a binder's names are hidden too
+unfoldable pub mark : (ℕ → Bool) → List ℕ → ℕ → ℕ
+mark b [] m = 0
+mark b (y ∷ ys) m = cond (low m ∨ᵇ b y) 1 0 + 2 * mark b ys (rest m)
+
+-- the first n of a function's values, in front of others
+unfoldable pub fan : ℕ → (ℕ → ℕ) → List ℕ → List ℕ
+fan zero g ms = ms
+fan (suc n) g ms = g 0 ∷ fan n (λ i. g (suc i)) ms
+
+unfoldable pub atPlace : ℕ → ℕ → ℕ → ℕ
+atPlace zero a b = a
+atPlace (suc i) a b = b
+
+-- which names a row binds in its last tree: "A native function binds its type's names in its body; let binds its name .. in its body only"
+unfoldable pub binds : (ℕ → Form) → Head → ℕ → ℕ → Bool
+binds form h ty y = cond (eqb (code h) 6) (told (find (params (form ty)) y)) (cond (eqb (code h) 19) (eqb y (wordOf h)) false)
+
+-- what is written for a row: itself, or an argument's rows
+unfoldable pub rowsFor : (ℕ → List (List ℕ)) → Option ℕ → List ℕ → List (List ℕ)
+rowsFor args none r = r ∷ []
+rowsFor args (some j) r = args j
+
+-- which argument is put at a row: at a variable whose name is put and not hidden
+unfoldable pub chosen : List ℕ → Head → ℕ → Option ℕ
+chosen names h m = cond (eqb (code h) 5) (pick names m (wordOf h)) none
+
+module _ (form : ℕ → Form) (names : List ℕ) where
+  -- the mask of the i-th tree of a row that is met under mask m
+  unfoldable pub inner : Head → ℕ → ℕ → ℕ → ℕ
+  inner h ty m i =
+      cond (eqb (code h) 6) (mark (binds form h ty) names m)
+      (cond (eqb (code h) 19) (atPlace i m (mark (binds form h ty) names m)) m)
+
+  -- the masks of the trees owed behind a row: those of its own trees, in front of the others
+  unfoldable pub after : Row → ℕ → List ℕ → List ℕ
+  after r m ms = fan (arity (r .head)) (inner (r .head) (r .type) m) ms
+
+  -- THE PASS: the rows written for the trees still owed, a mask for each. "put the arguments or bound term, unevaluated, for the free names
+  -- at once. A hidden name stays"
+  unfoldable pub run : (ℕ → List (List ℕ)) → List (List ℕ) → List ℕ → List (List ℕ)
+  run args [] ms = []
+  run args (r ∷ rs) [] = []
+  run args (r ∷ rs) (m ∷ ms) = rowsFor args (chosen names (rowOf r .head) m) r ++ run args rs (after (rowOf r) m ms)
+
+-- In a table of rows ---------------------------------------------------------------------------------------------
+
+-- the rows of a table from one to before another
+abbrev pub standing : List (List ℕ) → ℕ → ℕ → List (List ℕ)
+standing l from to = take (to - from) (drop from l)
+
+-- the masks of the trees owed, the next one first: entry k is that of the tree behind which k trees are owed
+unfoldable pub below : List ℕ → ℕ → List ℕ
+below s zero = []
+below s (suc k) = getD s k 0 ∷ below s k
+
+-- the argument for the j-th name stands from row bounds j to before row bounds (j + 1)
+abbrev pub argRows : List (List ℕ) → List ℕ → ℕ → List (List ℕ)
+argRows l bounds j = standing l (getD bounds j 0) (getD bounds (j + 1) 0)
+
+-- THE ROWS of the body at a row of a table, with the arguments put for the names
+unfoldable pub putRows : (ℕ → Form) → List (List ℕ) → ℕ → List ℕ → List ℕ → List (List ℕ)
+putRows form l body names bounds = run form names (argRows l bounds) (drop body l) (0 ∷ [])
+
+-- the rows that are copied for row i, from and to
+unfoldable pub firstRow : List ℕ → ℕ → Option ℕ → ℕ
+firstRow bounds i none = i
+firstRow bounds i (some j) = getD bounds j 0
+
+unfoldable pub endRow : List ℕ → ℕ → Option ℕ → ℕ
+endRow bounds i none = i + 1
+endRow bounds i (some j) = getD bounds (j + 1) 0
+
+-- behind row r the masks are those of the trees owed
+pub record Descends (form : ℕ → Form) (names : List ℕ) (r : Row) (masks masks′ : List ℕ) (owed owed′ : ℕ) : Type 0 where
+  pub long : length masks′ ≡ length masks
+  pub owes : owed′ ≡ owed - 1 + arity (r .head)
+  pub trees : below masks′ owed′ ≡ after form names r (getD masks (owed - 1) 0) (below masks (owed - 1))
+
+-- the body is a whole tree within the rows, and so is where each name's argument stands
+pub record Ready (l : List (List ℕ)) (body : ℕ) (names bounds : List ℕ) : Type 0 where
+  pub few : length l ≤ 2048
+  pub whole : body + size (treeAt (map rowOf l) body) ≤ length l
+  pub eight : length names ≤ 8
+  pub bounded : length names < length bounds
+  pub within : (j : ℕ) → j < length names → (getD bounds j 0 ≤ getD bounds (j + 1) 0) × (getD bounds (j + 1) 0 ≤ length l)

@@ -1,0 +1,219 @@
+// Names put at once: a body's rows are copied, and for a name that is put and not hidden its argument's rows.
+use layout::Found;
+use layout::Row;
+use rules::names::Named;
+ghost use mathlib.Core.Path.{_≡_};
+ghost use mathlib.Core.List.{_++_};
+ghost use Prim.Native.Nat.{_+_, _*_, _-_, _≤_, _<_};
+ghost use lib.ListN.{length, getD, set, take, drop};
+ghost use Rattle.layout.specs.Rows.{numbers, found, typeTable, rowTable};
+ghost use Rattle.meaning.specs.Types.{formOf, find, params};
+ghost use Rattle.meaning.specs.Terms.{arity, rowOf};
+ghost use Rattle.meaning.specs.Steps.{_∨ᵇ_};
+ghost use Rattle.terms.specs.Masks.{bit};
+ghost use Rattle.put.specs.Put.{pick, chosen, told, binds, mark, firstRow, endRow, Descends, Ready, putRows};
+
+// The rows that are copied for a row: from and to.
+pub struct Span {
+    pub from: usize,
+    pub to: usize,
+}
+
+// The place of the name x among those that are put, if the mask does not hide it.
+fn place_of(names: &[u16], m: u8, x: u32) -> Found
+    requires { ⌜ length (now names) ≤ 8 ⌝ }
+    ensures { λ r. ⌜ found r ≡ pick (now (names .entry)) m x ⌝ }
+{
+    let n = names.len();
+    let mut h = m;
+    let mut k: usize = 0;
+    while k < n {
+        if layout::word_of(names[k]) == x {
+            if h % 2 == 1 {
+                return Found::Nothing;
+            }
+            return Found::At(k as u32);
+        }
+        h = h / 2;
+        k += 1;
+    }
+    Found::Nothing
+}
+
+// The rows that are copied for row i, met under a mask.
+fn spot(names: &[u16], bounds: &[u16], m: u8, r: Row, i: usize) -> Span
+    requires { ⌜ (length (now names) ≤ 8) × (length (now names) < length (now bounds)) × (i < 4096) ⌝ }
+    ensures { λ s. ⌜ (s .from ≡ firstRow (now (bounds .entry)) i (chosen (now (names .entry)) (rowOf (numbers r) .head) m)) × (s .to ≡ endRow (now (bounds .entry)) i (chosen (now (names .entry)) (rowOf (numbers r) .head) m)) ⌝ }
+{
+    let k = r.kind;
+    if k == 5 {
+        let f = place_of(names, m, r.word);
+        match f {
+            Found::At(j) => {
+                let p = j as usize;
+                return Span {
+                    from: layout::wide(bounds[p]),
+                    to: layout::wide(bounds[p + 1]),
+                };
+            }
+            Found::Nothing => {
+                return Span { from: i, to: i + 1 };
+            }
+        }
+    }
+    Span { from: i, to: i + 1 }
+}
+
+// Whether a function of type t binds the name x.
+fn has_name(types: &[u8], t: u16, x: u32) -> bool
+    ensures { λ b. ⌜ b ≡ told (find (params (formOf (typeTable (now (types .entry))) t)) x) ⌝ }
+{
+    let f = rules::names::param_named(types, t, x);
+    match f {
+        Named::Has(u) => {
+            return true;
+        }
+        Named::Nothing => {
+            return false;
+        }
+    }
+}
+
+// Whether a row binds the name y in its last tree.
+fn binds_name(types: &[u8], r: Row, y: u16) -> bool
+    ensures { λ b. ⌜ b ≡ binds (formOf (typeTable (now (types .entry)))) (rowOf (numbers r) .head) (rowOf (numbers r) .type) y ⌝ }
+{
+    let k = r.kind;
+    let x = layout::word_of(y);
+    if k == 6 {
+        return has_name(types, r.ty, x);
+    }
+    if k == 19 {
+        return x == r.word;
+    }
+    false
+}
+
+// Whether the k-th name, y, is hidden in a row's last tree.
+fn hides(types: &[u8], r: Row, y: u16, m: u8, k: usize) -> bool
+    ensures { λ b. ⌜ b ≡ (bit m k ∨ᵇ binds (formOf (typeTable (now (types .entry)))) (rowOf (numbers r) .head) (rowOf (numbers r) .type) y) ⌝ }
+{
+    if terms::masks::mask_bit(m, k) {
+        return true;
+    }
+    binds_name(types, r, y)
+}
+
+// The mask of a binder's last tree.
+fn marked(types: &[u8], names: &[u16], r: Row, m: u8) -> u8
+    requires { ⌜ length (now names) ≤ 8 ⌝ }
+    ensures { λ x. ⌜ x ≡ mark (binds (formOf (typeTable (now (types .entry)))) (rowOf (numbers r) .head) (rowOf (numbers r) .type)) (now (names .entry)) m ⌝ }
+{
+    let mut x: u8 = 0;
+    let mut k = names.len();
+    while 0 < k {
+        let j = k - 1;
+        x = 2 * x;
+        if hides(types, r, names[j], m, j) {
+            x += 1;
+        }
+        k = j;
+    }
+    x
+}
+
+// Behind a row: its trees are owed, each with its mask. The trees owed are counted.
+fn descend(types: &[u8], names: &[u16], r: Row, masks: &mut [u8], owed: usize) -> usize
+    requires { ⌜ (length (now names) ≤ 8) × (0 < owed) × (owed ≤ length (now masks)) × (owed - 1 + arity (rowOf (numbers r) .head) ≤ length (now masks)) ⌝ }
+    ensures { λ n. ⌜ Descends (formOf (typeTable (now (types .entry)))) (now (names .entry)) (rowOf (numbers r)) (now (masks .entry)) (now (masks .exit)) owed n ⌝ }
+{
+    let top = owed - 1;
+    let m = masks[top];
+    let a = terms::children(r);
+    if a == 0 {
+        return top;
+    }
+    let k = r.kind;
+    if k == 6 {
+        masks[top] = marked(types, names, r, m);
+        return owed;
+    }
+    let n = top + a;
+    if k == 19 {
+        masks[top] = marked(types, names, r, m);
+        masks[owed] = m;
+        return n;
+    }
+    let mut j = owed;
+    while j < n {
+        masks[j] = m;
+        j += 1;
+    }
+    n
+}
+
+// How many rows the body at a row has with the arguments put.
+pub fn count_put(types: &[u8], rows: &[u8], body: usize, names: &[u16], bounds: &[u16]) -> usize
+    requires { ⌜ Ready (rowTable (now rows)) body (now names) (now bounds) ⌝ }
+    ensures { λ n. ⌜ n ≡ length (putRows (formOf (typeTable (now (types .entry)))) (rowTable (now (rows .entry))) body (now (names .entry)) (now (bounds .entry))) ⌝ }
+{
+    let mut masks = [0u8; 2048];
+    let mut owed: usize = 1;
+    let mut i = body;
+    let mut w: usize = 0;
+    while 0 < owed {
+        let r = layout::row_at(rows, i);
+        let s = spot(names, bounds, masks[owed - 1], r, i);
+        owed = descend(types, names, r, &mut masks, owed);
+        w += s.to - s.from;
+        i += 1;
+    }
+    w
+}
+
+// The rows of the body at a row with the arguments put, into a table of just as many.
+pub fn write_put(
+    types: &[u8],
+    rows: &[u8],
+    body: usize,
+    names: &[u16],
+    bounds: &[u16],
+    to: &mut [u8],
+)
+    requires { ⌜ Ready (rowTable (now rows)) body (now names) (now bounds) × (length (now to) ≡ 8 * length (putRows (formOf (typeTable (now types))) (rowTable (now rows)) body (now names) (now bounds))) ⌝ }
+    ensures { λ _. ⌜ rowTable (now (to .exit)) ≡ putRows (formOf (typeTable (now (types .entry)))) (rowTable (now (rows .entry))) body (now (names .entry)) (now (bounds .entry)) ⌝ }
+{
+    let mut masks = [0u8; 2048];
+    let mut owed: usize = 1;
+    let mut i = body;
+    let mut w: usize = 0;
+    while 0 < owed {
+        let r = layout::row_at(rows, i);
+        let s = spot(names, bounds, masks[owed - 1], r, i);
+        owed = descend(types, names, r, &mut masks, owed);
+        let n = s.to - s.from;
+        copy_rows(to, w, rows, s.from, n);
+        w += n;
+        i += 1;
+    }
+}
+
+// A new row, the i-th of a table.
+pub fn write_row(to: &mut [u8], i: usize, r: Row)
+    requires { ⌜ 8 * i + 8 ≤ length (now to) ⌝ }
+    ensures { λ _. ⌜ rowTable (now (to .exit)) ≡ set (rowTable (now (to .entry))) i (numbers r) ⌝ }
+{
+    let at = 8 * i;
+    to[at] = r.kind;
+    to[at + 1] = r.n;
+    layout::put16_at(to, at + 2, r.ty);
+    layout::put32_at(to, at + 4, r.word);
+}
+
+// n standing rows of a table, from row `from` on, go to another from row `at` on.
+pub fn copy_rows(to: &mut [u8], at: usize, rows: &[u8], from: usize, n: usize)
+    requires { ⌜ (8 * at + 8 * n ≤ length (now to)) × (8 * from + 8 * n ≤ length (now rows)) ⌝ }
+    ensures { λ _. ⌜ rowTable (now (to .exit)) ≡ take at (rowTable (now (to .entry))) ++ (take n (drop from (rowTable (now (rows .entry)))) ++ drop (at + n) (rowTable (now (to .entry)))) ⌝ }
+{
+    layout::copy_to(to, 8 * at, rows, 8 * from, 8 * n);
+}
