@@ -11,5 +11,6 @@ pub mod OnGoodStates
 pub mod Alive
 pub mod Paths
 pub mod Histories
+pub mod SettledOnce
 pub mod Reports
 pub mod Letters

@@ -117,7 +117,7 @@ pub record Holds (m : Limits) (types : List (List ℕ)) (p : ℕ) (b : List ℕ)
   pub of-program : Of types p state
   pub bytes : b ≡ recordOf m state
 
-pub move-holds : (m : Limits) → Board m → (types : List (List ℕ)) (p : ℕ) (b : List ℕ) (v : Move) → Holds m types p b → Holds m types p (afterMove m b v)
+unfoldable pub move-holds : (m : Limits) → Board m → (types : List (List ℕ)) (p : ℕ) (b : List ℕ) (v : Move) → Holds m types p b → Holds m types p (afterMove m b v)
 move-holds m k types p b v h =
     record {
       state = behindMove m (h .state) v;
