@@ -9,7 +9,7 @@ use lib.ListN.{length, getD, take, drop, set, replicate, length-drop, length-rep
 use lib.Seq.{drop-drop, getD-drop, take-all, paste, paste-suc, sets, sets-eq}
 use Rattle.meaning.specs.Bytes.{Layout, number, spell, width, read, write, reads, typeRow, termRow, recordHead}
 use Rattle.meaning.specs.Records.{recordMark}
-use Rattle.meaning.proofs.Bytes.Layouts.{number-at, length-reads, reads-at}
+use Rattle.meaning.proofs.Bytes.Layouts.{number-at, reads-at}
 use Rattle.meaning.specs.Types.{formNo, partsNo, result}
 use Rattle.meaning.specs.Terms.{kindNo, nNo, typeNo, wordNo}
 use Rattle.layout.specs.declared.Row.{Row}
@@ -93,18 +93,7 @@ module _ (t : ℕ) (s : List ℕ) (k : ℕ) (h : k < 8) where
   pub type-at : getD (read typeRow (drop (36 * t) s)) (4 + 2 * k) 0 ≡ number 2 (drop (36 * t + 6 + 4 * k) s)
   type-at = behind-at (36 * t) s (2 * k + 1) (4 + 2 * k) (36 * t + 6 + 4 * k) (omega arith) (omega arith) (omega arith)
 
--- the k-th pair of row t of the type rows that begin at base
-module _ (base t : ℕ) (s : List ℕ) (k : ℕ) (h : k < 8) where
-  pub name-in : getD (read typeRow (drop (base + 36 * t) s)) (3 + 2 * k) 0 ≡ number 2 (drop (base + 36 * t + 4 + 4 * k) s)
-  name-in = behind-at (base + 36 * t) s (2 * k) (3 + 2 * k) (base + 36 * t + 4 + 4 * k) (omega arith) refl (omega arith)
-
-  pub type-in : getD (read typeRow (drop (base + 36 * t) s)) (4 + 2 * k) 0 ≡ number 2 (drop (base + 36 * t + 6 + 4 * k) s)
-  type-in = behind-at (base + 36 * t) s (2 * k + 1) (4 + 2 * k) (base + 36 * t + 6 + 4 * k) (omega arith) (omega arith) (omega arith)
-
 -- Tables ---------------------------------------------------------------------------------------------------------
-
-pub rows-length : (l : Layout) (n : ℕ) (s : List ℕ) → length (reads l n s) ≡ n
-rows-length l n s = length-reads l n s
 
 -- the i-th row of a table that begins at base
 pub rows-at : (l : Layout) (n i base : ℕ) (s : List ℕ) (d : List ℕ) → i < n → getD (reads l n (drop base s)) i d ≡ read l (drop (base + width l * i) s)
@@ -114,14 +103,7 @@ pub term-rows-at : (n i base : ℕ) (s : List ℕ) (d : List ℕ) → i < n → 
 unfolding width
 term-rows-at n i base s d h = rows-at termRow n i base s d h
 
-pub type-rows-at : (n i base : ℕ) (s : List ℕ) (d : List ℕ) → i < n → getD (reads typeRow n (drop base s)) i d ≡ read typeRow (drop (base + 36 * i) s)
-unfolding width
-type-rows-at n i base s d h = rows-at typeRow n i base s d h
-
--- a row by value is the table's, and its fields are the row's numbers
-pub row-of-table : (n i base : ℕ) (s : List ℕ) (d : List ℕ) (r : Row) → i < n → numbers r ≡ read termRow (drop (base + 8 * i) s) → getD (reads termRow n (drop base s)) i d ≡ numbers r
-row-of-table n i base s d r h e = term-rows-at n i base s d h ∙ sym e
-
+-- the fields of a row by value are the row's numbers
 module _ (r : Row) (x : List ℕ) (e : numbers r ≡ x) where
   pub row-kind : r .kind ≡ kindNo x
   row-kind = ap (λ (l : List ℕ). getD l 0 0) e

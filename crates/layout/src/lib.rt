@@ -25,14 +25,22 @@ pub const TERM_ROW: usize = 8;
 
 pub const ENTRY_ROW: usize = 8;
 
-// Where the fields of a file's header and of a record's header stand.
-pub const FILE_VERSION_AT: usize = 3;
+// Where the fields of a header stand behind its mark: a file's as far as the row count, a record's all of them.
+pub const VERSION_AT: usize = 3;
 
-pub const FILE_ZERO_AT: usize = 5;
+pub const ZERO_AT: usize = 5;
 
-pub const FILE_TYPES_AT: usize = 6;
+pub const TYPE_COUNT_AT: usize = 6;
 
-pub const FILE_ROWS_AT: usize = 8;
+pub const ROW_COUNT_AT: usize = 8;
+
+pub const OPEN_COUNT_AT: usize = 10;
+
+pub const NEXT_AT: usize = 12;
+
+pub const PROGRAM_AT: usize = 16;
+
+pub const ZEROS_AT: usize = 18;
 
 // What a search for a row finds.
 pub enum Found {
@@ -191,57 +199,6 @@ pub fn less_one(n: usize) -> usize
     n - 1
 }
 
-// Row i of the term rows that begin at base.
-pub fn row_in(bytes: &[u8], base: usize, i: usize) -> Row
-    requires { ⌜ base + 8 * i + 8 ≤ length (now bytes) ⌝ }
-    ensures { λ r. ⌜ numbers r ≡ read termRow (drop (base + 8 * i) (now (bytes .entry))) ⌝ }
-{
-    let at = base + 8 * i;
-    Row {
-        kind: bytes[at],
-        n: bytes[at + 1],
-        ty: u16_at(bytes, at + 2),
-        word: u32_at(bytes, at + 4),
-    }
-}
-
-// The fields of row t of the type rows that begin at base.
-pub fn form_in(types: &[u8], base: usize, t: usize) -> u8
-    requires { ⌜ base + 36 * t + 36 ≤ length (now types) ⌝ }
-    ensures { λ r. ⌜ r ≡ formNo (read typeRow (drop (base + 36 * t) (now (types .entry)))) ⌝ }
-{
-    types[base + 36 * t]
-}
-
-pub fn parts_in(types: &[u8], base: usize, t: usize) -> u8
-    requires { ⌜ base + 36 * t + 36 ≤ length (now types) ⌝ }
-    ensures { λ r. ⌜ r ≡ partsNo (read typeRow (drop (base + 36 * t) (now (types .entry)))) ⌝ }
-{
-    types[base + 36 * t + 1]
-}
-
-pub fn result_in(types: &[u8], base: usize, t: usize) -> u16
-    requires { ⌜ base + 36 * t + 36 ≤ length (now types) ⌝ }
-    ensures { λ r. ⌜ r ≡ result (read typeRow (drop (base + 36 * t) (now (types .entry)))) ⌝ }
-{
-    u16_at(types, base + 36 * t + 2)
-}
-
-// The k-th pair's name and type, counted from 0.
-pub fn name_in(types: &[u8], base: usize, t: usize, k: usize) -> u16
-    requires { ⌜ (base + 36 * t + 36 ≤ length (now types)) × (k < 8) ⌝ }
-    ensures { λ r. ⌜ r ≡ getD (read typeRow (drop (base + 36 * t) (now (types .entry)))) (3 + 2 * k) 0 ⌝ }
-{
-    u16_at(types, base + 36 * t + 4 + 4 * k)
-}
-
-pub fn type_in(types: &[u8], base: usize, t: usize, k: usize) -> u16
-    requires { ⌜ (base + 36 * t + 36 ≤ length (now types)) × (k < 8) ⌝ }
-    ensures { λ r. ⌜ r ≡ getD (read typeRow (drop (base + 36 * t) (now (types .entry)))) (4 + 2 * k) 0 ⌝ }
-{
-    u16_at(types, base + 36 * t + 6 + 4 * k)
-}
-
 pub fn put16_at(buf: &mut [u8], at: usize, x: u16)
     requires { ⌜ at + 2 ≤ length (now buf) ⌝ }
     ensures { λ _. ⌜ now (buf .exit) ≡ sets (now (buf .entry)) at (spell 2 x) ⌝ }
@@ -303,9 +260,9 @@ fn write_counts(kept: &mut [u8], types: u16, rows: u16, calls: u16)
     requires { ⌜ 12 ≤ length (now kept) ⌝ }
     ensures { λ _. ⌜ now (kept .exit) ≡ sets (now (kept .entry)) 6 (spell 2 types ++ (spell 2 rows ++ spell 2 calls)) ⌝ }
 {
-    put16_at(kept, 6, types);
-    put16_at(kept, 8, rows);
-    put16_at(kept, 10, calls);
+    put16_at(kept, TYPE_COUNT_AT, types);
+    put16_at(kept, ROW_COUNT_AT, rows);
+    put16_at(kept, OPEN_COUNT_AT, calls);
 }
 
 // The next number, the program's type, two zeros.
@@ -313,9 +270,9 @@ fn write_next(kept: &mut [u8], next: u32, program: u16)
     requires { ⌜ 20 ≤ length (now kept) ⌝ }
     ensures { λ _. ⌜ now (kept .exit) ≡ sets (now (kept .entry)) 12 (spell 4 next ++ (spell 2 program ++ spell 2 0)) ⌝ }
 {
-    put32_at(kept, 12, next);
-    put16_at(kept, 16, program);
-    put16_at(kept, 18, 0);
+    put32_at(kept, NEXT_AT, next);
+    put16_at(kept, PROGRAM_AT, program);
+    put16_at(kept, ZEROS_AT, 0);
 }
 
 // A record's header; the bytes behind it stand.

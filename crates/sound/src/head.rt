@@ -13,42 +13,42 @@ pub fn edition(kept: &[u8]) -> u16
     requires { ⌜ 20 ≤ length (now kept) ⌝ }
     ensures { λ n. ⌜ n ≡ headNo 3 (now (kept .entry)) ⌝ }
 {
-    layout::u16_at(kept, 3)
+    layout::u16_at(kept, layout::VERSION_AT)
 }
 
 pub fn type_count(kept: &[u8]) -> u16
     requires { ⌜ 20 ≤ length (now kept) ⌝ }
     ensures { λ n. ⌜ n ≡ typeCount (now (kept .entry)) ⌝ }
 {
-    layout::u16_at(kept, 6)
+    layout::u16_at(kept, layout::TYPE_COUNT_AT)
 }
 
 pub fn row_count(kept: &[u8]) -> u16
     requires { ⌜ 20 ≤ length (now kept) ⌝ }
     ensures { λ n. ⌜ n ≡ rowCount (now (kept .entry)) ⌝ }
 {
-    layout::u16_at(kept, 8)
+    layout::u16_at(kept, layout::ROW_COUNT_AT)
 }
 
 pub fn open_count(kept: &[u8]) -> u16
     requires { ⌜ 20 ≤ length (now kept) ⌝ }
     ensures { λ n. ⌜ n ≡ openCount (now (kept .entry)) ⌝ }
 {
-    layout::u16_at(kept, 10)
+    layout::u16_at(kept, layout::OPEN_COUNT_AT)
 }
 
 pub fn next_number(kept: &[u8]) -> u32
     requires { ⌜ 20 ≤ length (now kept) ⌝ }
     ensures { λ n. ⌜ n ≡ nextNumber (now (kept .entry)) ⌝ }
 {
-    layout::u32_at(kept, 12)
+    layout::u32_at(kept, layout::NEXT_AT)
 }
 
 pub fn program_type(kept: &[u8]) -> u16
     requires { ⌜ 20 ≤ length (now kept) ⌝ }
     ensures { λ n. ⌜ n ≡ programType (now (kept .entry)) ⌝ }
 {
-    layout::u16_at(kept, 16)
+    layout::u16_at(kept, layout::PROGRAM_AT)
 }
 
 // The mark, the version and the zero byte behind it.
@@ -68,7 +68,7 @@ fn is_marked(kept: &[u8]) -> bool
     if edition(kept) != 1 {
         return false;
     }
-    kept[5] == 0
+    kept[layout::ZERO_AT] == 0
 }
 
 // Each count and the next number within its limits, and the last zeros.
@@ -100,7 +100,7 @@ fn counts_fit(kept: &[u8], m: Limits) -> bool
     if m.last < next - 1 {
         return false;
     }
-    layout::u16_at(kept, 18) == 0
+    layout::u16_at(kept, layout::ZEROS_AT) == 0
 }
 
 // The header's fixed numbers, and its counts within the board's limits.

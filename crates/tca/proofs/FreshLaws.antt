@@ -5,15 +5,18 @@ use mathlib.Core.List.{List, [], _∷_, _++_, map, append-assoc, append-nil}
 use native.Mathlib.Omega.{arith}
 use lib.ListN.{length, getD, take, drop, replicate, length-append, length-drop, replicate-append-replicate, drop-of-length-le}
 use lib.Seq.{take-at, drop-append-add, length-take-le}
-use Rattle.meaning.specs.Bytes.{number, width, read, write, reads, writes, padded, typeRow, termRow, recordHead, Limits, rowsAt, callsAt, recordBytes}
+use Rattle.meaning.specs.Bytes.{width, read, write, reads, writes, padded, typeRow, termRow, recordHead, Limits, rowsAt, callsAt, recordBytes}
 use Rattle.meaning.specs.Terms.{tyOf, flat, size, typeNo, raw, rowOf, trees, top, treeOf}
 use Rattle.meaning.specs.Records.{recordMark, headNumbers, recordOf}
 use Rattle.meaning.specs.Entries.{fileTypeCount, fileRowCount, fileTypes, fileRows, fileTree, loadVerdict, loadedState}
 use Rattle.meaning.specs.declared.Verdict.the-variants.{Accepted}
-use Rattle.meaning.proofs.Bytes.Layouts.{AllBytes, bytes-drop, padded-length, length-write, writes-reads, length-reads, reads-wide}
+use Rattle.meaning.proofs.Bytes.Layouts.{AllBytes, bytes-drop, padded-length, length-write, writes-reads, length-reads, reads-at, reads-wide}
 use Rattle.meaning.proofs.Bytes.RowTables.{shape-whole}
 use Rattle.meaning.proofs.Entries.Loading.{accepted-legal}
-use Rattle.layout.proofs.Laws.{term-row, term-rows-at}
+use Rattle.layout.specs.declared.Row.{Row}
+use Rattle.layout.specs.Rows.{numbers}
+use Rattle.layout.proofs.Laws.{row-type}
+use Rattle.layout.proofs.Tables.{term-width, reads-cut}
 
 -- Lists of zeros with parts put in -------------------------------------------------------------------------------
 
@@ -120,18 +123,27 @@ unfolding treeOf trees top tyOf rowOf
 top-type [] h = absurd (omega arith)
 top-type (r ∷ rs) h = refl
 
-program-type : (s : List ℕ) → 1 ≤ fileRowCount s → tyOf (fileTree s) ≡ number 2 (drop (10 + 36 * fileTypeCount s + 2) s)
+program-type : (s : List ℕ) → 1 ≤ fileRowCount s → tyOf (fileTree s) ≡ typeNo (read termRow (drop (10 + 36 * fileTypeCount s) s))
 unfolding fileTree fileRows width
 program-type s h =
     let p = 10 + 36 * fileTypeCount s in
-    let e : p + 8 * 0 ≡ p = omega arith in
     top-type (reads termRow (fileRowCount s) (drop p s)) (omega (arith, length-reads termRow (fileRowCount s) (drop p s)))
-    ∙ ap typeNo (term-rows-at (fileRowCount s) 0 p s [] h ∙ ap (λ (x : ℕ). read termRow (drop x s)) e ∙ term-row p s)
+    ∙ ap typeNo (reads-at termRow (fileRowCount s) 0 (drop p s) [] h)
+
+-- the row that stands first behind the types
+pub rest-long : (s : List ℕ) (at : ℕ) → at + 8 ≤ length s → 8 * 0 + 8 ≤ length (take (length s - at) (drop at s))
+rest-long s at h = omega (arith, length-take-le (length s - at) (drop at s) (rw length-drop (omega arith)), length-drop at s)
+
+pub first-row : (s : List ℕ) (at : ℕ) (r : Row) → at + 8 ≤ length s → numbers r ≡ read termRow (drop (8 * 0) (take (length s - at) (drop at s))) → r .ty ≡ typeNo (read termRow (drop at s))
+unfolding reads
+first-row s at r h e =
+    let g : length s - at ≤ length (drop at s) = rw length-drop (omega arith) in
+    row-type r (read termRow (drop at s)) (e ∙ ap (λ (l : List (List ℕ)). getD l 0 []) (reads-cut termRow 1 (length s - at) (drop at s) (rw term-width (omega arith)) g))
 
 -- the record, part by part, is the fresh one
 module _ (m : Limits) (s : List ℕ) (room : ℕ) (ok : loadVerdict m s room ≡ Accepted) (bytes : AllBytes s) (fits : m .programRows ≤ m .rows) where
   pub fresh-written : (b₁ b₂ b₃ b₄ : List ℕ) (types rows program p : ℕ)
-      → types ≡ fileTypeCount s → rows ≡ fileRowCount s → program ≡ number 2 (drop (10 + 36 * types + 2) s) → p ≡ rowsAt m
+      → types ≡ fileTypeCount s → rows ≡ fileRowCount s → program ≡ typeNo (read termRow (drop (10 + 36 * types) s)) → p ≡ rowsAt m
       → b₁ ≡ replicate room 0
       → b₂ ≡ write recordHead (recordMark ++ (types ∷ rows ∷ 0 ∷ 1 ∷ program ∷ 0 ∷ [])) ++ drop 20 b₁
       → b₃ ≡ take 20 b₂ ++ (take (36 * types) (drop 10 s) ++ drop (20 + 36 * types) b₂)

@@ -15,11 +15,24 @@ pub fn write_fresh(file: &[u8], kept: &mut [u8], m: Limits)
 {
     let types = super::head::type_count(file);
     let rows = super::head::row_count(file);
-    let at = 10 + 36 * types as usize;
-    let program = layout::u16_at(file, at + 2);
+    let at = layout::FILE_HEAD + layout::TYPE_ROW * types as usize;
+    let behind = &file[at..];
+    let first = layout::row_at(behind, 0);
     let room = kept.len();
     layout::clear(kept, 0, room);
-    layout::write_head(kept, types, rows, 0, 1, program);
-    layout::copy_to(kept, 20, file, 10, 36 * types as usize);
-    layout::copy_to(kept, layout::rows_at(m), file, at, 8 * rows as usize);
+    layout::write_head(kept, types, rows, 0, 1, first.ty);
+    layout::copy_to(
+        kept,
+        layout::RECORD_HEAD,
+        file,
+        layout::FILE_HEAD,
+        layout::TYPE_ROW * types as usize,
+    );
+    layout::copy_to(
+        kept,
+        layout::rows_at(m),
+        file,
+        at,
+        layout::TERM_ROW * rows as usize,
+    );
 }

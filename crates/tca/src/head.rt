@@ -27,21 +27,21 @@ pub fn version(file: &[u8]) -> u16
     requires { ⌜ 10 ≤ length (now file) ⌝ }
     ensures { λ n. ⌜ n ≡ fileNo 3 (now (file .entry)) ⌝ }
 {
-    layout::u16_at(file, 3)
+    layout::u16_at(file, layout::VERSION_AT)
 }
 
 pub fn type_count(file: &[u8]) -> u16
     requires { ⌜ 10 ≤ length (now file) ⌝ }
     ensures { λ n. ⌜ n ≡ fileTypeCount (now (file .entry)) ⌝ }
 {
-    layout::u16_at(file, 6)
+    layout::u16_at(file, layout::TYPE_COUNT_AT)
 }
 
 pub fn row_count(file: &[u8]) -> u16
     requires { ⌜ 10 ≤ length (now file) ⌝ }
     ensures { λ n. ⌜ n ≡ fileRowCount (now (file .entry)) ⌝ }
 {
-    layout::u16_at(file, 8)
+    layout::u16_at(file, layout::ROW_COUNT_AT)
 }
 
 // The zero byte, and each count from 1 to its limit.
@@ -49,7 +49,7 @@ pub fn counts_ok(file: &[u8], m: Limits) -> bool
     requires { ⌜ 10 ≤ length (now file) ⌝ }
     ensures { λ b. ⌜ b ≡ countsOk (board m) (now (file .entry)) ⌝ }
 {
-    if file[5] != 0 {
+    if file[layout::ZERO_AT] != 0 {
         return false;
     }
     let types = type_count(file);

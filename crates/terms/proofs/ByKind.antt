@@ -1,17 +1,16 @@
 -- The tables by kind: children, and the ranges of fields. Assumes nothing.
-use Prim.Native.Nat.{ℕ, zero, suc, _+_, _-_, _*_, _<_, _≤_}
+use Prim.Native.Nat.{ℕ, zero, suc, _<_, _≤_}
 use mathlib.Core.Path.{_≡_, refl, ap, sym, _∙_, subst}
 use mathlib.Core.Bool.{Bool, true, false, cond}
-use mathlib.Core.List.{List, [], _∷_, map}
-use mathlib.Core.Option.{Option, none, some}
+use mathlib.Core.List.{List, [], _∷_}
+use mathlib.Core.Option.{none, some}
 use native.Mathlib.Omega.{arith}
 use native.Mathlib.Decide.{ℕ-discrete, decLt}
-use lib.Dec.{eqb, leb, ltb}
-use borrow.Author.Tests.{eq-eqb, ne-eqb, lt-ltb, le-ltb, le-leb, lt-leb}
+use lib.Dec.{leb, ltb}
+use borrow.Author.Tests.{ne-eqb, le-leb, lt-leb}
 use lib.ListN.{getD, List·getD-eq-default}
 use Rattle.meaning.specs.Bytes.{_∧ᵇ_, within}
-use Rattle.meaning.specs.Terms.{Head, lit, str, arity, headFrom, Fields, words-from, none-used, kindFields, lastKind, withinOne, fits, rowFault}
-use Rattle.meaning.specs.declared.Fault.{Fault}
+use Rattle.meaning.specs.Terms.{lit, str, arity, headFrom, Fields, words-from, none-used, kindFields, lastKind, withinOne, fits, rowFault}
 use Rattle.meaning.specs.declared.Fault.the-variants.{Kind, Field, Number}
 
 -- a fact of each number below n, by its cases

@@ -1,11 +1,11 @@
 -- A test by a row's kind number is the same test of the head that the number makes. Assumes nothing.
-use Prim.Native.Nat.{ℕ, zero, suc, _≤_}
+use Prim.Native.Nat.{ℕ, _≤_}
 use mathlib.Core.Path.{_≡_, refl, sym, _∙_}
 use native.Mathlib.Omega.{arith}
 use native.Mathlib.Decide.{decLt}
 use lib.Dec.{eqb}
 use borrow.Author.Tests.{ne-eqb}
-use Rattle.meaning.specs.Terms.{str, lit, code, headFrom}
+use Rattle.meaning.specs.Terms.{code, headFrom}
 use Rattle.terms.proofs.ByKind.{Below, below, head-other}
 
 -- a byte that is no kind is none of those that are asked for

@@ -7,11 +7,10 @@ use native.Mathlib.Omega.{arith}
 use native.Mathlib.Decide.{ℕ-discrete}
 use native.Mathlib.Numerals.{add-one}
 use borrow.Author.Tests.{eq-eqb, ne-eqb, lt-ltb, le-ltb, le-leb, lt-leb}
-use lib.Dec.{leb}
 use lib.ListN.{length, drop, getD, drop-of-length-le, List·getD-eq-default}
 use lib.Seq.{drop-cons}
 use Rattle.meaning.specs.Bytes.{_∧ᵇ_, within, zeros}
-use Rattle.meaning.specs.Types.{formNo, partsNo, result, parts, names, types, lastForm, every, nonzero, member, distinct, below, plainOk, listOk, tupleOk, namesOk, functionOk, formFields, fieldsOk, sameNumbers, fresh}
+use Rattle.meaning.specs.Types.{formNo, partsNo, result, parts, lastForm, every, nonzero, member, distinct, below, plainOk, listOk, tupleOk, namesOk, functionOk, formFields, fieldsOk, sameNumbers, fresh}
 use Rattle.types.specs.Table.{firstNames, firstTypes}
 
 pub last-other : (e : ℕ) → (e ≡ 1 → ⊥) → lastForm e ≡ 0

@@ -19,6 +19,7 @@ load-spec =
     -- write-fresh-requires
     (λ c κs. let e = c .before .before .before .before .arm-limits .ensures in (sym (c .before .before .before .load-verdict .ensures) ∙ c .before .enum-told .given .1, omega (arith, ap (λ (b : Limits). b .rows) e, ap (λ (b : Limits). b .programRows) e)))
     (λ c. search needs)
+    -- same-length
     (λ c. search needs)
     -- returns
     (λ c. let a = c .before .before .before .before .before .before .before .before .before .before .args in loads-fresh (board (c .before .before .before .before .before .before .before .arm-limits .result)) (a .file .now) (a .kept .now) _ (c .before .before .before .before .before .before .before .arm-limits .ensures) (c .before .before .before .before .before .before .load-verdict .ensures) _ (c .before .before .before .before .enum-told .given .1) (c .before .before .write-fresh .ensures))

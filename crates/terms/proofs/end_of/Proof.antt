@@ -1,6 +1,6 @@
 -- The loop's invariant: the trees still owed from row i on end where the tree at row `at` ends.
 use Prim.Native.Nat.{ℕ, _+_, _*_, _-_, _/_, _≤_}
-use mathlib.Core.Path.{_≡_, refl, sym, ap, _∙_}
+use mathlib.Core.Path.{_≡_, sym, ap, _∙_}
 use lib.ListN.{length}
 use Rattle.layout.specs.Rows.{numbers, termRows}
 use Rattle.meaning.specs.Terms.{arity, rowOf, size, sizes, treeAt, grove}

@@ -3,7 +3,6 @@ use Prim.Native.Nat.{_-_}
 use mathlib.Core.Path.{_≡_, refl, sym, _∙_}
 use native.Mathlib.Omega.{arith}
 use lib.ListN.{drop}
-use mathlib.Core.List.{[]}
 use Rattle.meaning.specs.Bytes.{typeRow}
 use Rattle.meaning.specs.Types.{fresh}
 use Rattle.meaning.proofs.Bytes.Layouts.{length-reads}

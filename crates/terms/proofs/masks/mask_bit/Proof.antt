@@ -1,6 +1,5 @@
 -- The loop's invariant: bit k of what is left of the mask is the one asked for.
-use Prim.Native.Nat.{ℕ, suc, _+_, _-_}
-use mathlib.Core.Path.{_≡_, refl, sym, ap, _∙_}
+use mathlib.Core.Path.{_≡_, refl, sym, _∙_}
 use native.Mathlib.Omega.{arith}
 use Rattle.terms.specs.Masks.{bit}
 use Rattle.terms.proofs.Bits.{bit-on, bit-here}
