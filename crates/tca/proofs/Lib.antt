@@ -2,3 +2,4 @@ pub mod HeadLaws
 pub mod VerdictLaws
 pub mod FreshLaws
 pub mod Once
+pub mod ReplyLaws

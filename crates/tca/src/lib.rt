@@ -7,6 +7,7 @@ use meaning::Shape;
 mod answers;
 mod fresh;
 mod head;
+pub mod reply;
 
 ghost use mathlib.Core.Path.{_≡_};
 ghost use Prim.Native.Nat.{_+_, _*_, _≤_};

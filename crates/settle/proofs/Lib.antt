@@ -1,0 +1,5 @@
+pub mod Rows
+pub mod Trees
+pub mod Copies
+pub mod Verdicts
+pub mod Records

@@ -1,0 +1,60 @@
+-- `settle::settle_rows` meets its contract: what is written is the rows passed, settled. Assumes nothing.
+use Prim.Native.Nat.{ℕ, _+_, _*_, _-_, _≤_}
+use mathlib.Core.Path.{_≡_, refl, sym, ap, _∙_}
+use mathlib.Core.List.{List, [], _++_}
+use native.Mathlib.Omega.{arith}
+use lib.ListN.{length, take, drop}
+use Rattle.meaning.specs.Bytes.{writes, termRow}
+use Rattle.layout.specs.Rows.{rowTable}
+use Rattle.layout.proofs.Tables.{row-table-length, row-table-at}
+use Rattle.settle.specs.Settled.{settled}
+use Rattle.settle.proofs.Rows.{count-due, count-other, all-rows, no-rows, prefix}
+use Rattle.settle.proofs.Copies.{table-bytes, push-due, push-other}
+use borrow.Author.Needs.{needs}
+use Rattle.settle.proofs.settle_rows.Statement.{statement}
+use Rattle.settle.proofs.settle_rows.Tie as tie
+
+abbrev Inv-loop : tie.InvT-loop
+Inv-loop work₀ rows value number all out₀ i₀ work out i = (i ≤ all) × (out ≡ 8 * length (settled number (rowTable value) (take i (rowTable rows)))) × (length work ≡ length work₀) × (work ≡ writes termRow (settled number (rowTable value) (take i (rowTable rows))) ++ drop out work₀)
+
+abbrev μ-loop : tie.MeasureT-loop
+μ-loop work₀ rows value number all out₀ i₀ work out i = all - i
+
+pub settle-rows-spec : {M : Type 1} → statement M
+settle-rows-spec =
+    tie.close
+    (tie.spec
+    Inv-loop
+    μ-loop
+    (λ c κs. search needs)
+    -- loop-holds
+    (λ c. (omega arith, omega (arith, ap length (no-rows (c .before .before .before .before .args .number) (rowTable (c .before .before .before .before .args .value .now)) (rowTable (c .before .before .before .before .args .rows .now)))), refl, unfold writes in ap (λ (x : List (List ℕ)). writes termRow x ++ (c .before .before .before .before .args .work .now)) (sym (no-rows (c .before .before .before .before .args .number) (rowTable (c .before .before .before .before .args .value .now)) (rowTable (c .before .before .before .before .args .rows .now))))))
+    -- row-at-requires
+    (λ c κs. omega arith)
+    (λ c κs. search needs)
+    -- copy-to-requires
+    (λ c κs. let z = row-table-length (c .before .before .before .before .before .before .before .before .before .before .args .rows .now) in let y = row-table-length (c .before .before .before .before .before .before .before .before .before .before .args .value .now) in let d = count-due (c .before .before .before .before .before .before .before .before .before .before .args .number) (rowTable (c .before .before .before .before .before .before .before .before .before .before .args .value .now)) (rowTable (c .before .before .before .before .before .before .before .before .before .before .args .rows .now)) (c .before .before .before .before .before .loop .i) [] _ (omega arith) (row-table-at (c .before .before .before .before .before .before .before .before .before .before .args .rows .now) (c .before .before .before .before .before .loop .i) [] (omega arith) ∙ sym (c .before .before .before .row-at .ensures)) _ _ (sym (c .before .before .is-due .ensures) ∙ c .before .if1 .taken) refl refl in let p = prefix (c .before .before .before .before .before .before .before .before .before .before .args .number) (rowTable (c .before .before .before .before .before .before .before .before .before .before .args .value .now)) (rowTable (c .before .before .before .before .before .before .before .before .before .before .args .rows .now)) ((c .before .before .before .before .before .loop .i) + 1) in (omega arith, omega arith))
+    -- add-out
+    (λ c. let z = row-table-length (c .before .before .before .before .before .before .before .before .before .before .before .before .before .args .rows .now) in let y = row-table-length (c .before .before .before .before .before .before .before .before .before .before .before .before .before .args .value .now) in let d = count-due (c .before .before .before .before .before .before .before .before .before .before .before .before .before .args .number) (rowTable (c .before .before .before .before .before .before .before .before .before .before .before .before .before .args .value .now)) (rowTable (c .before .before .before .before .before .before .before .before .before .before .before .before .before .args .rows .now)) (c .before .before .before .before .before .before .before .before .loop .i) [] _ (omega arith) (row-table-at (c .before .before .before .before .before .before .before .before .before .before .before .before .before .args .rows .now) (c .before .before .before .before .before .before .before .before .loop .i) [] (omega arith) ∙ sym (c .before .before .before .before .before .before .row-at .ensures)) _ _ (sym (c .before .before .before .before .before .is-due .ensures) ∙ c .before .before .before .before .if1 .taken) refl refl in let p = prefix (c .before .before .before .before .before .before .before .before .before .before .before .before .before .args .number) (rowTable (c .before .before .before .before .before .before .before .before .before .before .before .before .before .args .value .now)) (rowTable (c .before .before .before .before .before .before .before .before .before .before .before .before .before .args .rows .now)) ((c .before .before .before .before .before .before .before .before .loop .i) + 1) in omega arith)
+    -- add-i
+    (λ c. omega arith)
+    -- loop-less
+    (λ c. omega arith)
+    -- loop-again
+    (λ c. let z = row-table-length (c .before .before .before .before .before .before .before .before .before .before .before .before .before .args .rows .now) in let y = row-table-length (c .before .before .before .before .before .before .before .before .before .before .before .before .before .args .value .now) in let d = count-due (c .before .before .before .before .before .before .before .before .before .before .before .before .before .args .number) (rowTable (c .before .before .before .before .before .before .before .before .before .before .before .before .before .args .value .now)) (rowTable (c .before .before .before .before .before .before .before .before .before .before .before .before .before .args .rows .now)) (c .before .before .before .before .before .before .before .before .loop .i) [] _ (omega arith) (row-table-at (c .before .before .before .before .before .before .before .before .before .before .before .before .before .args .rows .now) (c .before .before .before .before .before .before .before .before .loop .i) [] (omega arith) ∙ sym (c .before .before .before .before .before .before .row-at .ensures)) _ _ (sym (c .before .before .before .before .before .is-due .ensures) ∙ c .before .before .before .before .if1 .taken) refl refl in (omega arith, omega arith, c .before .before .copy-to .kept .0 ∙ c .before .before .before .before .before .before .before .before .loop .inv .2, push-due (c .before .before .before .before .before .before .before .before .before .before .before .before .before .args .number) (rowTable (c .before .before .before .before .before .before .before .before .before .before .before .before .before .args .value .now)) (rowTable (c .before .before .before .before .before .before .before .before .before .before .before .before .before .args .rows .now)) (c .before .before .before .before .before .before .before .before .loop .i) [] _ (omega arith) (row-table-at (c .before .before .before .before .before .before .before .before .before .before .before .before .before .args .rows .now) (c .before .before .before .before .before .before .before .before .loop .i) [] (omega arith) ∙ sym (c .before .before .before .before .before .before .row-at .ensures)) (c .before .before .before .before .before .before .before .before .before .before .before .before .before .args .work .now) _ _ _ (c .before .before .before .before .before .before .before .before .loop .inv .1) (c .before .before .before .before .before .before .before .before .loop .inv .3) (c .before .before .before .before .before .before .before .before .before .before .before .before .before .args .value .now) _ (sym (c .before .before .before .before .before .is-due .ensures) ∙ c .before .before .before .before .if1 .taken) (table-bytes (c .before .before .before .before .before .before .before .before .before .before .before .before .before .args .value .now) (λ j. omega (arith, c .before .before .before .before .before .before .before .before .before .before .shared-slice-known2 .given j)) (c .before .before .before .before .before .before .before .before .before .before .before .before .before .pre .1)) refl (c .before .before .copy-to .ensures)))
+    -- mul-copy-to
+    (λ c. omega arith)
+    -- copy-to-requires-2
+    (λ c κs. let z = row-table-length (c .before .before .before .before .before .before .before .before .before .before .args .rows .now) in let y = row-table-length (c .before .before .before .before .before .before .before .before .before .before .args .value .now) in let d = count-other (c .before .before .before .before .before .before .before .before .before .before .args .number) (rowTable (c .before .before .before .before .before .before .before .before .before .before .args .value .now)) (rowTable (c .before .before .before .before .before .before .before .before .before .before .args .rows .now)) (c .before .before .before .before .before .loop .i) [] _ (omega arith) (row-table-at (c .before .before .before .before .before .before .before .before .before .before .args .rows .now) (c .before .before .before .before .before .loop .i) [] (omega arith) ∙ sym (c .before .before .before .row-at .ensures)) _ (sym (c .before .before .is-due .ensures) ∙ c .before .if1 .left) refl in let p = prefix (c .before .before .before .before .before .before .before .before .before .before .args .number) (rowTable (c .before .before .before .before .before .before .before .before .before .before .args .value .now)) (rowTable (c .before .before .before .before .before .before .before .before .before .before .args .rows .now)) ((c .before .before .before .before .before .loop .i) + 1) in (omega arith, omega arith))
+    -- add-out-2
+    (λ c. let z = row-table-length (c .before .before .before .before .before .before .before .before .before .before .before .before .before .args .rows .now) in let y = row-table-length (c .before .before .before .before .before .before .before .before .before .before .before .before .before .args .value .now) in let d = count-other (c .before .before .before .before .before .before .before .before .before .before .before .before .before .args .number) (rowTable (c .before .before .before .before .before .before .before .before .before .before .before .before .before .args .value .now)) (rowTable (c .before .before .before .before .before .before .before .before .before .before .before .before .before .args .rows .now)) (c .before .before .before .before .before .before .before .before .loop .i) [] _ (omega arith) (row-table-at (c .before .before .before .before .before .before .before .before .before .before .before .before .before .args .rows .now) (c .before .before .before .before .before .before .before .before .loop .i) [] (omega arith) ∙ sym (c .before .before .before .before .before .before .row-at .ensures)) _ (sym (c .before .before .before .before .before .is-due .ensures) ∙ c .before .before .before .before .if1 .left) refl in let p = prefix (c .before .before .before .before .before .before .before .before .before .before .before .before .before .args .number) (rowTable (c .before .before .before .before .before .before .before .before .before .before .before .before .before .args .value .now)) (rowTable (c .before .before .before .before .before .before .before .before .before .before .before .before .before .args .rows .now)) ((c .before .before .before .before .before .before .before .before .loop .i) + 1) in omega arith)
+    -- add-i-2
+    (λ c. omega arith)
+    -- loop-less-2
+    (λ c. omega arith)
+    -- loop-again-2
+    (λ c. let z = row-table-length (c .before .before .before .before .before .before .before .before .before .before .before .before .before .args .rows .now) in let y = row-table-length (c .before .before .before .before .before .before .before .before .before .before .before .before .before .args .value .now) in let d = count-other (c .before .before .before .before .before .before .before .before .before .before .before .before .before .args .number) (rowTable (c .before .before .before .before .before .before .before .before .before .before .before .before .before .args .value .now)) (rowTable (c .before .before .before .before .before .before .before .before .before .before .before .before .before .args .rows .now)) (c .before .before .before .before .before .before .before .before .loop .i) [] _ (omega arith) (row-table-at (c .before .before .before .before .before .before .before .before .before .before .before .before .before .args .rows .now) (c .before .before .before .before .before .before .before .before .loop .i) [] (omega arith) ∙ sym (c .before .before .before .before .before .before .row-at .ensures)) _ (sym (c .before .before .before .before .before .is-due .ensures) ∙ c .before .before .before .before .if1 .left) refl in (omega arith, omega arith, c .before .before .copy-to2 .kept .0 ∙ c .before .before .before .before .before .before .before .before .loop .inv .2, push-other (c .before .before .before .before .before .before .before .before .before .before .before .before .before .args .number) (rowTable (c .before .before .before .before .before .before .before .before .before .before .before .before .before .args .value .now)) (rowTable (c .before .before .before .before .before .before .before .before .before .before .before .before .before .args .rows .now)) (c .before .before .before .before .before .before .before .before .loop .i) [] _ (omega arith) (row-table-at (c .before .before .before .before .before .before .before .before .before .before .before .before .before .args .rows .now) (c .before .before .before .before .before .before .before .before .loop .i) [] (omega arith) ∙ sym (c .before .before .before .before .before .before .row-at .ensures)) (c .before .before .before .before .before .before .before .before .before .before .before .before .before .args .work .now) _ _ _ (c .before .before .before .before .before .before .before .before .loop .inv .1) (c .before .before .before .before .before .before .before .before .loop .inv .3) (c .before .before .before .before .before .before .before .before .before .before .before .before .before .args .rows .now) (λ j. omega (arith, c .before .before .before .before .before .before .before .before .before .before .before .shared-slice-known .given j)) (omega arith) (c .before .before .before .before .before .before .row-at .ensures) (sym (c .before .before .before .before .before .is-due .ensures) ∙ c .before .before .before .before .if1 .left) (c .before .before .copy-to2 .ensures)))
+    -- same-length
+    (λ c. c .before .loop .inv .2)
+    -- returns
+    (λ c. let z = row-table-length (c .before .before .before .before .before .before .args .rows .now) in let y = row-table-length (c .before .before .before .before .before .before .args .value .now) in let e = all-rows (c .before .before .before .before .before .before .args .number) (rowTable (c .before .before .before .before .before .before .args .value .now)) (rowTable (c .before .before .before .before .before .before .args .rows .now)) (c .before .loop .i) (omega arith) in (c .before .loop .inv .1 ∙ ap (λ (x : List (List ℕ)). 8 * length x) e, c .before .loop .inv .3 ∙ ap (λ (x : List (List ℕ)). writes termRow x ++ drop (c .before .loop .out) (c .before .before .before .before .before .before .args .work .now)) e)))
