@@ -11,7 +11,7 @@ use Rattle.meaning.specs.Bytes.{_∧ᵇ_}
 use Rattle.meaning.specs.Types.{ntv, Param, Form, fFun, params, elemOf, member, Ctx, find, pick, _⹁_}
 use Rattle.meaning.specs.Terms.{str, file, truth, Head, lit, var, lambda, foreign, apply, future, ite, fix, nil, cons, isnil, zip, tuple, project, lproject, bind, arity, code, nOf, wordOf, Tree, Forest, node, end, more, headOf, tyOf, is, Row, flat, flats}
 use Rattle.meaning.specs.Typing.{tys, belowOk, Rule, scope, Typed}
-use Rattle.meaning.specs.Steps.{_∨ᵇ_, Sub, veil, hide, swap, assign, put, due, settle, settles, values, Call, Out, stay, go, child, kid, become, ifStep, isnilStep, projectStep, sendStep, isList, ready, anyNil, lprojectStep, tie, fixStep, zipCons, zipStep, applyStep, letStep, contract, nowhere, everywhere, first, unless, behind, applyLooks, looks, stays, goes, orElse, wrap, tailGoes, headGoes, visit, step, steps}
+use Rattle.meaning.specs.Steps.{_∨ᵇ_, Sub, veil, hide, swap, assign, put, due, settle, settles, values, Call, Out, stay, go, child, kid, become, ifStep, isnilStep, projectStep, sendStep, isList, ready, anyNil, lprojectStep, tie, fixStep, zipCons, zipStep, applyStep, letStep, contract, nowhere, everywhere, first, unless, behind, unready, applyLooks, looks, stays, goes, orElse, wrap, tailGoes, headGoes, visit, step, steps}
 use Rattle.meaning.proofs.Trees.Tests.{left}
 
 -- a kind is one kind
@@ -48,6 +48,12 @@ module _ (form : ℕ → Form) where
       → step form k (node (apply n) u (more c args)) ≡ go (some (record { tool = wordOf (headOf c); rows = flats args; result = u })) (node (future k) u end)
   unfolding contract applyStep sendStep
   foreign-sends {n} k u c args e v = at-once k (apply n) u (more c args) _ _ (rw (not-kind 6 7 c e refl, e, v) refl)
+
+  -- "Apply of a zip: the first masked argument that is neither nil nor cons and can step does", also where another is nil
+  pub zip-waits : {n : ℕ} (k u : ℕ) (c : Tree) (args : Forest n) → is 15 c ≡ true → ready (nOf (headOf c)) args ≡ false
+      → step form k (node (apply n) u (more c args)) ≡ wrap (apply n) u (tailGoes c (steps form k (unready (nOf (headOf c)) args) args))
+  unfolding step contract applyStep zipStep orElse looks applyLooks behind visit
+  zip-waits {n} k u c args e r = rw (not-kind 6 15 c e refl, not-kind 7 15 c e refl, e, r) refl
 
   -- "When all are nil or cons: any nil gives nil; otherwise a cons of the inner function on the heads and the same zip on the tails"
   pub zip-nil : {n : ℕ} (k u : ℕ) (c : Tree) (args : Forest n) → is 15 c ≡ true → ready (nOf (headOf c)) args ≡ true → anyNil (nOf (headOf c)) args ≡ true
