@@ -6,7 +6,7 @@ use mathlib.Core.List.{List, [], _∷_, _++_, append-assoc, append-nil}
 use native.Mathlib.Omega.{arith}
 use lib.ListN.{length, getD, take, drop, replicate, length-append, length-drop, drop-of-length-le}
 use lib.Seq.{take-all, take-at, take-take, drop-drop, drop-append-add, length-take-le}
-use Rattle.meaning.specs.Bytes.{width, read, write, writes, padded, termRow}
+use Rattle.meaning.specs.Bytes.{width, read, write, writes, termRow}
 use Rattle.meaning.proofs.Bytes.Layouts.{AllBytes, bytes-take, bytes-drop, write-read, length-writes, writes-reads}
 use Rattle.layout.specs.Rows.{rowTable}
 use Rattle.layout.proofs.Tables.{row-table-length, row-table-take, row-table-drop}
@@ -56,18 +56,6 @@ module _ (k : ℕ) (vs l : List (List ℕ)) (i : ℕ) (d r : List ℕ) (h : i < 
       ∙ ap (λ (x : List ℕ). x ++ drop (out + 8) w₀)
       (sym (ap (writes termRow) (more-other k vs l i d r h q e) ∙ writes-append termRow s (r ∷ []) ∙ ap (λ (x : List ℕ). writes termRow s ++ x) (one-row r ∙ ap (write termRow) re ∙ row-bytes rows i b z)))
 
--- rows, then zeros
-pub tail-written : (t rows a b : List ℕ) (n e : ℕ) → n ≡ length rows → e ≡ length t → n ≤ e → a ≡ take 0 t ++ (take n (drop 0 rows) ++ drop (0 + n) t) → b ≡ take n a ++ (replicate (e - n) 0 ++ drop e a)
-    → b ≡ padded e rows
-unfolding padded
-tail-written t rows a b n e ne ee h f g =
-    let z : 0 + n ≡ n = omega arith in
-    let x : take n rows ≡ rows = take-all n rows (omega arith) in
-    let y : a ≡ rows ++ drop n t = f ∙ rw (x, z) refl in
-    let p : take n a ≡ rows = ap (take n) y ∙ take-at rows (drop n t) n (sym ne) in
-    let q : drop e a ≡ [] = drop-of-length-le a {i = e} (omega (arith, ap length y, length-append rows (drop n t), length-drop n t)) in
-    g ∙ rw (p, q, ← ne) (ap (λ (v : List ℕ). rows ++ v) (append-nil (replicate (e - n) 0)))
-
 pub all-cleared : (d b : List ℕ) (n : ℕ) → length d ≡ n → b ≡ take 0 d ++ (replicate (n - 0) 0 ++ drop n d) → b ≡ replicate n 0
 all-cleared d b n h e = let z : n - 0 ≡ n = omega arith in e ∙ rw (z, drop-of-length-le d {i = n} (omega arith)) (append-nil (replicate n 0))
 
@@ -101,25 +89,25 @@ module _ (s : List ℕ) (u f k : ℕ) (vs : List (List ℕ)) (h : u ≤ length s
         let g : length (take f (rowTable (take u s))) ≡ f = length-take-le f (rowTable (take u s)) (st .within) in
         sym (ap length whole-rows ∙ length-append (take f (rowTable (take u s))) x ∙ ap (λ (n : ℕ). n + length x) g)
 
-    pub space-settled : AllBytes s → 8 * length (settled k vs (rowTable (take u s))) ≤ length s → (y : List ℕ) → y ≡ padded (length s - 8 * f) (writes termRow x)
-        → take (8 * f) s ++ (y ++ drop (length s - 8 * f) (drop (8 * f) s)) ≡ padded (length s) (writes termRow (settled k vs (rowTable (take u s))))
-    unfolding padded
-    space-settled b fit y ye =
-        let g = first-within in
-        let z : drop (length s - 8 * f) (drop (8 * f) s) ≡ [] = drop-of-length-le (drop (8 * f) s) {i = length s - 8 * f} (rw length-drop (omega arith)) in
-        let w : writes termRow (settled k vs (rowTable (take u s))) ≡ take (8 * f) s ++ writes termRow x =
-        ap (writes termRow) whole-rows ∙ writes-append termRow (take f (rowTable (take u s))) x ∙ ap (λ (v : List ℕ). v ++ writes termRow x) (front-rows b) in
-        let j : length (take (8 * f) s) ≡ 8 * f = length-take-le (8 * f) s (omega arith) in
-        let n : length s - 8 * f - length (writes termRow x) ≡ length s - length (take (8 * f) s ++ writes termRow x) = omega (arith, length-append (take (8 * f) s) (writes termRow x)) in
-        rw (z, ye, w, ← n, append-nil) (sym (append-assoc (take (8 * f) s) (writes termRow x) (replicate (length s - 8 * f - length (writes termRow x)) 0)))
-
--- what the tail is lent for
-pub tail-is : (s w₀ w₁ y : List ℕ) (f n : ℕ) (x : List (List ℕ)) → 8 * f ≤ length s → n ≡ 8 * length x → w₁ ≡ writes termRow x ++ drop n w₀ → y ≡ padded (length (take (length s - 8 * f) (drop (8 * f) s))) (take n w₁)
-    → y ≡ padded (length s - 8 * f) (writes termRow x)
-tail-is s w₀ w₁ y f n x h e g q =
-    let l : length (take (length s - 8 * f) (drop (8 * f) s)) ≡ length s - 8 * f = length-take-le (length s - 8 * f) (drop (8 * f) s) (rw length-drop (omega arith)) in
-    let w : take n w₁ ≡ writes termRow x = ap (take n) g ∙ take-at (writes termRow x) (drop n w₀) n (bytes-of-rows x n e) in
-    q ∙ rw (l, w) refl
+    -- the tail t is lent, and the rows x copied there from the work buffer
+    pub space-settled : AllBytes s → (w₀ w₁ t y : List ℕ) (n : ℕ) → n ≡ 8 * length x → 8 * f ≤ length s → w₁ ≡ writes termRow x ++ drop n w₀ → y ≡ take 0 t ++ (take n (drop 0 w₁) ++ drop (0 + n) t)
+        → take (8 * (f + n / 8)) (take (8 * f) s ++ (y ++ drop (length s - 8 * f) (drop (8 * f) s))) ≡ writes termRow (settled k vs (rowTable (take u s)))
+    space-settled b w₀ w₁ t y n ne g we ye =
+        let d = drop (length s - 8 * f) (drop (8 * f) s) in
+        let xb = writes termRow x in
+        let xl : length xb ≡ n = bytes-of-rows x n ne in
+        let a : take n w₁ ≡ xb = ap (take n) we ∙ take-at xb (drop n w₀) n xl in
+        let z : 0 + n ≡ n = omega arith in
+        let q : y ≡ xb ++ drop n t = ye ∙ rw (z, a) refl in
+        let w : writes termRow (settled k vs (rowTable (take u s))) ≡ take (8 * f) s ++ xb =
+        ap (writes termRow) whole-rows ∙ writes-append termRow (take f (rowTable (take u s))) x ∙ ap (λ (v : List ℕ). v ++ xb) (front-rows b) in
+        let l : length (take (8 * f) s ++ xb) ≡ 8 * (f + n / 8) = length-append (take (8 * f) s) xb ∙ omega (arith, length-take-le (8 * f) s g) in
+        ap (take (8 * (f + n / 8)))
+        (ap (λ (v : List ℕ). take (8 * f) s ++ (v ++ d)) q
+        ∙ ap (λ (v : List ℕ). take (8 * f) s ++ v) (append-assoc xb (drop n t) d)
+        ∙ sym (append-assoc (take (8 * f) s) xb (drop n t ++ d)))
+        ∙ take-at (take (8 * f) s ++ xb) (drop n t ++ d) (8 * (f + n / 8)) l
+        ∙ sym w
 
 -- a part that comes back is as long as it was
 pub mid-length : (b y : List ℕ) (p q : ℕ) → p + q ≤ length b → length y ≡ q → length (take p b ++ (y ++ drop q (drop p b))) ≡ length b

@@ -2,57 +2,27 @@
 use Prim.Native.Nat.{ℕ, _+_, _*_, _-_, _≤_}
 use mathlib.Core.Path.{_≡_, refl, ap, sym, _∙_}
 use mathlib.Core.Bool.{true}
-use mathlib.Core.List.{List, [], _∷_, _++_, map, append-assoc, append-nil}
+use mathlib.Core.List.{List, [], _++_, map, append-nil}
 use native.Mathlib.Omega.{arith}
-use lib.ListN.{length, getD, take, drop, length-append, length-drop, length-map, take-append-drop, drop-of-length-le}
-use lib.Seq.{take-at, drop-drop, take-take, take-append-le, drop-at, drop-append-le, length-take-le}
-use Rattle.meaning.specs.Bytes.{width, read, write, reads, writes, padded, typeRow, termRow, entryRow, recordHead, callsAt, rowsAt, recordBytes}
+use lib.ListN.{length, take, drop, length-drop, length-map, drop-of-length-le}
+use lib.Seq.{take-at, take-take, drop-at, length-take-le}
+use Rattle.meaning.specs.Bytes.{writes, termRow, rowsAt}
 use Rattle.meaning.specs.Terms.{flat, size, raw}
-use Rattle.meaning.specs.Records.{State, Entry, recordMark, rawEntry, headNumbers, recordOf, typeCount, rowCount, nextNumber, programType, rowsIn, stateOf, sound}
-use Rattle.meaning.specs.Entries.{replyNumber, replyTree, without, repliedState}
+use Rattle.meaning.specs.Records.{State, Entry, recordOf, typeCount, rowCount, nextNumber, rowsIn, stateOf, sound}
+use Rattle.meaning.specs.Entries.{stepped, replyNumber, replyTree, without, repliedState}
 use Rattle.meaning.proofs.Trees.Parse.{length-flat}
-use Rattle.meaning.proofs.Bytes.Layouts.{AllBytes, padded-length, length-write, length-writes}
-use Rattle.meaning.proofs.Bytes.Records.{Small, Good, good-state, record-state, tree-rows, type-total}
+use Rattle.meaning.proofs.Bytes.Layouts.{AllBytes}
+use Rattle.meaning.proofs.Bytes.Records.{Small, Good, good-state, record-state, tree-rows}
 use Rattle.meaning.proofs.Entries.Replying.{accepted-reply, reply-tree}
 use Rattle.layout.specs.declared.Limits.{Limits}
 use Rattle.layout.specs.Rows.{board, typeTable, rowTable}
-use Rattle.layout.proofs.Tables.{reads-front, row-table-cut}
+use Rattle.layout.proofs.Tables.{row-table-cut}
 use Rattle.sound.specs.Ready.{Ready}
 use Rattle.sound.proofs.Parts.{sizes, types-table, rows-table}
-use Rattle.settle.specs.Settled.{settled, settledIn, Taken, Fitting, Rewritable, rewritten}
+use Rattle.keep.specs.Keep.{Roomy, Holding, recalled}
+use Rattle.settle.specs.Settled.{settled, settledIn, Taken, Fitting}
 use Rattle.settle.proofs.Trees.{rows-settled}
 use Rattle.settle.proofs.Verdicts.{Headed, headed, value-rows, value-length}
-
--- a header does not change with what stands behind it
-head-front : (s t u : List ℕ) → 20 ≤ length s → read recordHead (s ++ t) ≡ read recordHead (s ++ u)
-unfolding reads width
-head-front s t u h =
-    ap (λ (l : List (List ℕ)). getD l 0 []) (reads-front recordHead 1 s t (omega arith) ∙ sym (reads-front recordHead 1 s u (omega arith)))
-
--- where the list and the rows of a record begin
-pub record Spots (m : Limits) (b : List ℕ) : Type 0 where
-  pub head : 20 ≤ length b
-  pub calls-from : callsAt (board m) ≡ 20 + 36 * m .types
-  pub rows-from : rowsAt (board m) ≡ 20 + 36 * m .types + 8 * m .calls
-  pub long : length b ≡ 20 + 36 * m .types + 8 * m .calls + 8 * m .rows
-
-pub spots : (m : Limits) (b : List ℕ) (count : ℕ) → Rewritable m b count → Spots m b
-unfolding callsAt rowsAt recordBytes width
-spots m b count r = record { head = omega (arith, r .long); calls-from = omega arith; rows-from = omega arith; long = omega (arith, r .long) }
-
--- the list stored, then the header written
-pub rewrite-is : (m : Limits) (b y b₁ b₂ : List ℕ) (es : List Entry) (types rows count next program p q : ℕ) → Spots m b
-    → types ≡ typeCount b → next ≡ nextNumber b → program ≡ programType b → p ≡ callsAt (board m) → q ≡ rowsAt (board m)
-    → y ≡ padded (length (take (q - p) (drop p b))) (writes entryRow (map rawEntry es))
-    → b₁ ≡ take p b ++ (y ++ drop (q - p) (drop p b))
-    → b₂ ≡ write recordHead (recordMark ++ (types ∷ rows ∷ count ∷ next ∷ program ∷ 0 ∷ [])) ++ drop 20 b₁
-    → b₂ ≡ rewritten m b es count rows
-unfolding rewritten
-rewrite-is m b y b₁ b₂ es types rows count next program p q z te ne ge pe qe ye be ce =
-    let l : length (take (q - p) (drop p b)) ≡ 8 * m .calls =
-    length-take-le (q - p) (drop p b) (rw length-drop (omega (arith, z .long, z .rows-from, z .calls-from))) ∙ omega (arith, z .rows-from, z .calls-from) in
-    let d : drop (q - p) (drop p b) ≡ drop q b = let e : p + (q - p) ≡ q = omega (arith, z .rows-from, z .calls-from) in drop-drop (q - p) p b ∙ ap (λ (x : ℕ). drop x b) e in
-    ce ∙ rw (be, d, ye, l, te, ne, ge, pe, qe) refl
 
 small-board : (m : Limits) (b : List ℕ) → Ready m b → m .last ≤ 65535 → Small (board m)
 small-board m b r h = let z = sizes m b r in record { types = omega arith; rows = omega arith; calls = omega arith; numbers = omega arith }
@@ -136,43 +106,33 @@ module _ (m : Limits) (b answer : List ℕ) (t : Taken m b answer) (bb : AllByte
 
     -- The record ---------------------------------------------------------------------------------------------------
 
-    next-is : held .next ≡ nextNumber b
-    unfolding stateOf
-    next-is = refl
+    pub roomy : Roomy (board m) held
+    roomy = let g = good in record { types = g .typesMany; calls = g .callsMany; rows = g .rowsMany }
 
-    program-is : held .program ≡ programType b
-    unfolding stateOf
-    program-is = refl
-
-    types-part : drop 20 (take (callsAt (board m)) b) ≡ padded (width typeRow * m .types) (writes typeRow (held .types))
-    unfolding recordOf width
-    types-part =
-        let z = sizes m b (t .ready) in
-        let g = good in
-        let h = write recordHead (headNumbers held) in
-        let ts = padded (36 * m .types) (writes typeRow (held .types)) in
-        let hl : length h ≡ 20 = length-write recordHead (headNumbers held) in
-        let tl : length ts ≡ 36 * m .types = padded-length (36 * m .types) (writes typeRow (held .types)) (omega (arith, length-writes typeRow (held .types), g .typesMany)) in
-        let l : length (h ++ ts) ≡ callsAt (board m) = length-append h ts ∙ omega (arith, z .calls-from) in
-        ap (λ (x : List ℕ). drop 20 (take (callsAt (board m)) x)) (sym back ∙ sym (append-assoc h ts _))
-        ∙ ap (drop 20) (take-at (h ++ ts) _ (callsAt (board m)) l)
-        ∙ drop-at h ts 20 hl
-
-    pub record-replied : (b₁ y : List ℕ) (es : List Entry) (count r : ℕ) → y ≡ padded (length (space p)) (writes termRow (settledIn (space p) (8 * n) value k)) → b₁ ≡ take p b ++ (y ++ drop (length b - p) (drop p b))
-        → es ≡ without k (held .calls) → count ≡ length es → r ≡ length (settledIn (space p) (8 * n) value k) → rewritten m b₁ es count r ≡ recordOf (board m) replied
-    unfolding rewritten recordOf headNumbers repliedState width
-    record-replied b₁ y es count r ye be ee ce re =
+    -- before the row space the record stands, in it are the rows settled
+    pub holding : (b₁ y : List ℕ) (r : ℕ) → take (8 * r) y ≡ writes termRow (settledIn (space p) (8 * n) value k) → b₁ ≡ take p b ++ (y ++ drop (length b - p) (drop p b))
+        → r ≡ length (settledIn (space p) (8 * n) value k) → Holding (board m) b₁ r held (replied .tree)
+    holding b₁ y r ye be re =
         let z = sizes m b (t .ready) in
         let gone : drop (length b - p) (drop p b) ≡ [] = drop-of-length-le (drop p b) {i = length b - p} (rw length-drop (omega arith)) in
         let b₁-is : b₁ ≡ take p b ++ y = be ∙ rw gone (ap (λ (x : List ℕ). take p b ++ x) (append-nil y)) in
-        let pl : length (take p b) ≡ p = length-take-le p b (omega (arith, z .long, z .rows-from)) in
-        let hd : read recordHead b₁ ≡ read recordHead b = ap (read recordHead) b₁-is ∙ head-front (take p b) y (drop p b) (omega (arith, z .rows-from)) ∙ ap (read recordHead) (take-append-drop p b) in
-        let tk : take (callsAt (board m)) b₁ ≡ take (callsAt (board m)) b =
-        ap (take (callsAt (board m))) b₁-is ∙ take-append-le (callsAt (board m)) (take p b) y (omega (arith, z .rows-from, z .calls-from)) ∙ take-take (callsAt (board m)) p b (omega (arith, z .rows-from, z .calls-from)) in
-        let dp : drop (rowsAt (board m)) b₁ ≡ y = ap (drop (rowsAt (board m))) b₁-is ∙ drop-at (take p b) y (rowsAt (board m)) (pl ∙ pe) in
-        let cl : 20 ≤ length (take (callsAt (board m)) b) = omega (arith, length-take-le (callsAt (board m)) b (omega (arith, z .long, z .calls-from)), z .calls-from) in
-        let yy : y ≡ padded (8 * m .rows) (writes termRow (map raw (flat (replied .tree)))) = ye ∙ rw (space-length, rows-are) refl in
-        let ty : typeCount b ≡ length (held .types) = sym (type-total (board m) b small (t .ready .long) bb (t .is-sound)) in
-        let nx : nextNumber b ≡ held .next = sym next-is in
-        let pr : programType b ≡ held .program = sym program-is in
-        rw (hd, tk, dp, drop-append-le 20 (take (callsAt (board m)) b) (padded (8 * m .calls) (writes entryRow (map rawEntry es)) ++ y) cl, types-part, yy, ce, ee, re ∙ rows-size, ke, ty, nx, pr) refl
+        let pl : length (take p b) ≡ rowsAt (board m) = length-take-le p b (omega (arith, z .long, z .rows-from)) ∙ pe in
+        record {
+          roomy = roomy;
+          count = re ∙ rows-size;
+          front =
+              ap (take (rowsAt (board m))) b₁-is
+              ∙ take-at (take p b) y (rowsAt (board m)) pl
+              ∙ ap (λ (x : ℕ). take x b) pe
+              ∙ ap (take (rowsAt (board m))) (sym back);
+          term = ap (λ (x : List ℕ). take (8 * r) (drop (rowsAt (board m)) x)) b₁-is ∙ ap (take (8 * r)) (drop-at (take p b) y (rowsAt (board m)) pl) ∙ ye ∙ ap (writes termRow) rows-are;
+        }
+
+    pub roomy-settled : Roomy (board m) (stepped held (replied .tree))
+    unfolding stepped
+    roomy-settled = let g = good in record { types = g .typesMany; calls = g .callsMany; rows = omega (arith, rows-size, rows-most) }
+
+    -- the list without the entry, the next number as it was
+    pub recalled-is : (es : List Entry) (next : ℕ) → es ≡ without k (held .calls) → next ≡ nextNumber b → recalled (stepped held (replied .tree)) es next ≡ replied
+    unfolding recalled stepped repliedState stateOf
+    recalled-is es next ee xe = rw (ee, ke, xe) refl

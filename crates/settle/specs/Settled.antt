@@ -2,13 +2,13 @@
 use Prim.Native.Nat.{ℕ, _≤_, _*_, _/_}
 use mathlib.Core.Path.{_≡_}
 use mathlib.Core.Bool.{Bool, true, cond}
-use mathlib.Core.List.{List, [], _∷_, _++_, map}
+use mathlib.Core.List.{List, [], _∷_, _++_}
 use lib.Dec.{eqb, leb}
 use lib.ListN.{length, take, drop, replicate}
-use Rattle.meaning.specs.Bytes.{_∧ᵇ_, write, writes, padded, termRow, entryRow, recordHead, callsAt, rowsAt, recordBytes}
+use Rattle.meaning.specs.Bytes.{_∧ᵇ_, writes, termRow}
 use Rattle.meaning.specs.Types.{formOf}
 use Rattle.meaning.specs.Terms.{kindNo, wordNo, shape, treeOf}
-use Rattle.meaning.specs.Records.{Entry, stateOf, version, recordMark, rawEntry, typeCount, nextNumber, programType, firstNot, sound}
+use Rattle.meaning.specs.Records.{stateOf, version, firstNot, sound}
 use Rattle.meaning.specs.Entries.{require, refuse, refuseShape, replyKind, replyBad, replyVerdict}
 use Rattle.meaning.specs.declared.Verdict.{Verdict}
 use Rattle.meaning.specs.declared.Verdict.the-variants.{Accepted}
@@ -61,18 +61,5 @@ pub record Fitting (space : List ℕ) (used : ℕ) (work value : List ℕ) (k : 
 
 pub record Settles (space : List ℕ) (used : ℕ) (work value : List ℕ) (k n : ℕ) (space′ work′ : List ℕ) : Type 0 where
   pub rows : n ≡ length (settledIn space used value k)
-  pub bytes : space′ ≡ padded (length space) (writes termRow (settledIn space used value k))
+  pub bytes : take (8 * n) space′ ≡ writes termRow (settledIn space used value k)
   pub cleared : work′ ≡ replicate (length work) 0
-
--- A record's list and header written anew ------------------------------------------------------------------------
-
-pub record Rewritable (m : Limits) (kept : List ℕ) (count : ℕ) : Type 0 where
-  pub long : length kept ≡ recordBytes (board m)
-  pub calls : m .calls ≤ 64
-  pub counted : count ≤ m .calls
-
--- types, next number and program type as they were
-unfoldable pub rewritten : Limits → List ℕ → List Entry → ℕ → ℕ → List ℕ
-rewritten m b es count rows =
-    write recordHead (recordMark ++ (typeCount b ∷ rows ∷ count ∷ nextNumber b ∷ programType b ∷ 0 ∷ []))
-    ++ drop 20 (take (callsAt (board m)) b ++ (padded (8 * m .calls) (writes entryRow (map rawEntry es)) ++ drop (rowsAt (board m)) b))

@@ -1,7 +1,6 @@
 // A reply taken: its rows for each future of its number, its entry out of the open list, the record written anew from the changed row on.
 use layout::Limits;
 use layout::Row;
-use open::OpenList;
 
 pub mod verdict;
 
@@ -9,12 +8,11 @@ ghost use mathlib.Core.Path.{_≡_};
 ghost use mathlib.Core.List.{_++_};
 ghost use Prim.Native.Nat.{_+_, _*_, _/_, _≤_};
 ghost use lib.ListN.{length, drop, replicate};
-ghost use Rattle.meaning.specs.Bytes.{writes, padded, termRow};
+ghost use Rattle.meaning.specs.Bytes.{writes, termRow};
 ghost use Rattle.meaning.specs.Records.{recordOf, stateOf};
 ghost use Rattle.meaning.specs.Entries.{repliedState};
 ghost use Rattle.layout.specs.Rows.{board, numbers, rowTable};
-ghost use Rattle.open.specs.Open.{opened};
-ghost use Rattle.settle.specs.Settled.{isDue, settled, Stands, Taken, Fitting, Settles, Rewritable, rewritten};
+ghost use Rattle.settle.specs.Settled.{isDue, settled, Stands, Taken, Fitting, Settles};
 
 // A row is a future of the number.
 fn is_due(r: Row, number: u32) -> bool
@@ -84,18 +82,8 @@ fn settle_rows(work: &mut [u8], rows: &[u8], value: &[u8], number: u32) -> usize
     out
 }
 
-// The record's tail from the changed row on: the rows, then zeros.
-fn write_tail(tail: &mut [u8], rows: &[u8])
-    requires { ⌜ length (now rows) ≤ length (now tail) ⌝ }
-    ensures { λ _. ⌜ now (tail .exit) ≡ padded (length (now (tail .entry))) (now (rows .entry)) ⌝ }
-{
-    let n = rows.len();
-    let end = tail.len();
-    layout::copy_to(tail, 0, rows, 0, n);
-    layout::clear(tail, n, end);
-}
-
-// The term in a record's row space, `used` bytes of it, settled by way of the work buffer, which is cleared; how many rows it has.
+// The term in a record's row space, `used` bytes of it, settled by way of the work buffer, which is cleared: the tail from the first
+// future on is lent to the copying function. How many rows the term has.
 fn settle_term(space: &mut [u8], used: usize, work: &mut [u8], value: &[u8], number: u32) -> usize
     requires { ⌜ Fitting (now space) used (now work) (now value) number ⌝ }
     ensures { λ n. ⌜ Settles (now (space .entry)) used (now (work .entry)) (now (value .entry)) number n (now (space .exit)) (now (work .exit)) ⌝ }
@@ -103,24 +91,10 @@ fn settle_term(space: &mut [u8], used: usize, work: &mut [u8], value: &[u8], num
     let first = first_due(&space[..used], number);
     let from = layout::TERM_ROW * first;
     let n = settle_rows(work, &space[from..used], value, number);
-    write_tail(&mut space[from..], &work[..n]);
+    layout::copy_to(&mut space[from..], 0, work, 0, n);
     let end = work.len();
     layout::clear(work, 0, end);
     first + n / layout::TERM_ROW
-}
-
-// The open list and the header of a record; its types and its term stand.
-fn rewrite(kept: &mut [u8], list: OpenList, rows: u16, m: Limits)
-    requires { ⌜ Rewritable m (now kept) (list .count) ⌝ }
-    ensures { λ _. ⌜ now (kept .exit) ≡ rewritten m (now (kept .entry)) (opened list) (list .count) rows ⌝ }
-{
-    let types = sound::head::type_count(kept);
-    let next = sound::head::next_number(kept);
-    let program = sound::head::program_type(kept);
-    let calls = layout::calls_at(m);
-    let end = layout::rows_at(m);
-    list.store(&mut kept[calls..end]);
-    layout::write_head(kept, types, rows, list.count as u16, next, program);
 }
 
 // An accepted reply's record, and a work buffer of zeros.
@@ -130,6 +104,7 @@ pub fn settle(kept: &mut [u8], work: &mut [u8], answer: &[u8], m: Limits)
 {
     let number = layout::u32_at(answer, 0);
     let list = sound::open_list(kept, m).without(number);
+    let next = sound::head::next_number(kept);
     let at = layout::rows_at(m);
     let used = layout::TERM_ROW * sound::head::row_count(kept) as usize;
     let rows = settle_term(
@@ -139,5 +114,6 @@ pub fn settle(kept: &mut [u8], work: &mut [u8], answer: &[u8], m: Limits)
         &answer[layout::REPLY_HEAD..],
         number,
     );
-    rewrite(kept, list, rows as u16, m);
+    keep::renew_rows(kept, m, rows);
+    keep::renew_calls(kept, m, list, next);
 }

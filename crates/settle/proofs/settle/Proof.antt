@@ -1,16 +1,18 @@
--- `settle::settle` meets its contract: the term in its place, then the list and the header. Assumes nothing.
-use Prim.Native.Nat.{_-_}
+-- `settle::settle` meets its contract: the term in its place, then the row count, then the list. Assumes nothing.
+use Prim.Native.Nat.{_-_, _≤_}
 use mathlib.Core.Path.{refl, sym, ap, _∙_}
 use native.Mathlib.Omega.{arith}
 use lib.ListN.{length, drop, length-drop}
 use lib.Seq.{length-take-le}
 use Rattle.meaning.specs.Entries.{without}
+use Rattle.layout.specs.Rows.{board}
 use Rattle.open.specs.Open.{opened}
 use Rattle.sound.proofs.Parts.{sizes, call-total}
 use Rattle.meaning.proofs.Entries.OpenList.{length-without}
+use Rattle.meaning.specs.Records.{recordOf, State}
 use Rattle.settle.proofs.Copies.{mid-length}
 use Rattle.settle.proofs.Verdicts.{number-at}
-use Rattle.settle.proofs.Records.{head-good, rows-most, fitting, record-replied}
+use Rattle.settle.proofs.Records.{head-good, rows-most, fitting, holding, roomy-settled, recalled-is}
 use borrow.Author.Needs.{needs}
 use Rattle.settle.proofs.settle.Statement.{statement}
 use Rattle.settle.proofs.settle.Tie as tie
@@ -25,32 +27,34 @@ settle-spec =
     (λ c κs. (c .before .before .before .before .before .pre .0) .ready)
     -- without-requires
     (λ c κs. let z = sizes (c .before .before .before .before .before .before .args .m) (c .before .before .before .before .before .before .args .kept .now) ((c .before .before .before .before .before .before .pre .0) .ready) in let hg = head-good (c .before .before .before .before .before .before .args .m) (c .before .before .before .before .before .before .args .kept .now) (c .before .before .before .before .before .before .args .answer .now) (c .before .before .before .before .before .before .pre .0) (λ j. omega (arith, c .before .before .before .before .before .slice-known .given j)) in omega (arith, c .open-list .ensures .count, call-total (c .before .before .before .before .before .before .args .m) (c .before .before .before .before .before .before .args .kept .now) z))
+    -- next-number-requires
+    (λ c κs. let z = sizes (c .before .before .before .before .before .before .before .before .args .m) (c .before .before .before .before .before .before .before .before .args .kept .now) ((c .before .before .before .before .before .before .before .before .pre .0) .ready) in let hg = head-good (c .before .before .before .before .before .before .before .before .args .m) (c .before .before .before .before .before .before .before .before .args .kept .now) (c .before .before .before .before .before .before .before .before .args .answer .now) (c .before .before .before .before .before .before .before .before .pre .0) (λ j. omega (arith, c .before .before .before .before .before .before .before .slice-known .given j)) in omega arith)
     (λ c κs. search needs)
     -- row-count-requires
-    (λ c κs. let z = sizes (c .before .before .before .before .before .before .before .before .before .args .m) (c .before .before .before .before .before .before .before .before .before .args .kept .now) ((c .before .before .before .before .before .before .before .before .before .pre .0) .ready) in let hg = head-good (c .before .before .before .before .before .before .before .before .before .args .m) (c .before .before .before .before .before .before .before .before .before .args .kept .now) (c .before .before .before .before .before .before .before .before .before .args .answer .now) (c .before .before .before .before .before .before .before .before .before .pre .0) (λ j. omega (arith, c .before .before .before .before .before .before .before .before .slice-known .given j)) in omega arith)
+    (λ c κs. let z = sizes (c .before .before .before .before .before .before .before .before .before .before .before .args .m) (c .before .before .before .before .before .before .before .before .before .before .before .args .kept .now) ((c .before .before .before .before .before .before .before .before .before .before .before .pre .0) .ready) in let hg = head-good (c .before .before .before .before .before .before .before .before .before .before .before .args .m) (c .before .before .before .before .before .before .before .before .before .before .before .args .kept .now) (c .before .before .before .before .before .before .before .before .before .before .before .args .answer .now) (c .before .before .before .before .before .before .before .before .before .before .before .pre .0) (λ j. omega (arith, c .before .before .before .before .before .before .before .before .before .before .slice-known .given j)) in omega arith)
     (λ c. search needs)
     (λ c. search needs)
     -- sub-settle-term
-    (λ c. let z = sizes (c .before .before .before .before .before .before .before .before .before .before .args .m) (c .before .before .before .before .before .before .before .before .before .before .args .kept .now) ((c .before .before .before .before .before .before .before .before .before .before .pre .0) .ready) in let hg = head-good (c .before .before .before .before .before .before .before .before .before .before .args .m) (c .before .before .before .before .before .before .before .before .before .before .args .kept .now) (c .before .before .before .before .before .before .before .before .before .before .args .answer .now) (c .before .before .before .before .before .before .before .before .before .before .pre .0) (λ j. omega (arith, c .before .before .before .before .before .before .before .before .before .slice-known .given j)) in omega (arith, c .before .before .rows-at .ensures))
+    (λ c. let z = sizes (c .before .before .before .before .before .before .before .before .before .before .before .before .args .m) (c .before .before .before .before .before .before .before .before .before .before .before .before .args .kept .now) ((c .before .before .before .before .before .before .before .before .before .before .before .before .pre .0) .ready) in let hg = head-good (c .before .before .before .before .before .before .before .before .before .before .before .before .args .m) (c .before .before .before .before .before .before .before .before .before .before .before .before .args .kept .now) (c .before .before .before .before .before .before .before .before .before .before .before .before .args .answer .now) (c .before .before .before .before .before .before .before .before .before .before .before .before .pre .0) (λ j. omega (arith, c .before .before .before .before .before .before .before .before .before .before .before .slice-known .given j)) in omega (arith, c .before .before .rows-at .ensures))
     -- part-settle-term-start
-    (λ c. let z = sizes (c .before .before .before .before .before .before .before .before .before .before .args .m) (c .before .before .before .before .before .before .before .before .before .before .args .kept .now) ((c .before .before .before .before .before .before .before .before .before .before .pre .0) .ready) in let hg = head-good (c .before .before .before .before .before .before .before .before .before .before .args .m) (c .before .before .before .before .before .before .before .before .before .before .args .kept .now) (c .before .before .before .before .before .before .before .before .before .before .args .answer .now) (c .before .before .before .before .before .before .before .before .before .before .pre .0) (λ j. omega (arith, c .before .before .before .before .before .before .before .before .before .slice-known .given j)) in omega (arith, c .before .before .rows-at .ensures))
+    (λ c. let z = sizes (c .before .before .before .before .before .before .before .before .before .before .before .before .args .m) (c .before .before .before .before .before .before .before .before .before .before .before .before .args .kept .now) ((c .before .before .before .before .before .before .before .before .before .before .before .before .pre .0) .ready) in let hg = head-good (c .before .before .before .before .before .before .before .before .before .before .before .before .args .m) (c .before .before .before .before .before .before .before .before .before .before .before .before .args .kept .now) (c .before .before .before .before .before .before .before .before .before .before .before .before .args .answer .now) (c .before .before .before .before .before .before .before .before .before .before .before .before .pre .0) (λ j. omega (arith, c .before .before .before .before .before .before .before .before .before .before .before .slice-known .given j)) in omega (arith, c .before .before .rows-at .ensures))
     -- part-settle-term-end
-    (λ c. let z = sizes (c .before .before .before .before .before .before .before .before .before .before .args .m) (c .before .before .before .before .before .before .before .before .before .before .args .kept .now) ((c .before .before .before .before .before .before .before .before .before .before .pre .0) .ready) in let hg = head-good (c .before .before .before .before .before .before .before .before .before .before .args .m) (c .before .before .before .before .before .before .before .before .before .before .args .kept .now) (c .before .before .before .before .before .before .before .before .before .before .args .answer .now) (c .before .before .before .before .before .before .before .before .before .before .pre .0) (λ j. omega (arith, c .before .before .before .before .before .before .before .before .before .slice-known .given j)) in omega (arith, c .before .before .rows-at .ensures))
+    (λ c. let z = sizes (c .before .before .before .before .before .before .before .before .before .before .before .before .args .m) (c .before .before .before .before .before .before .before .before .before .before .before .before .args .kept .now) ((c .before .before .before .before .before .before .before .before .before .before .before .before .pre .0) .ready) in let hg = head-good (c .before .before .before .before .before .before .before .before .before .before .before .before .args .m) (c .before .before .before .before .before .before .before .before .before .before .before .before .args .kept .now) (c .before .before .before .before .before .before .before .before .before .before .before .before .args .answer .now) (c .before .before .before .before .before .before .before .before .before .before .before .before .pre .0) (λ j. omega (arith, c .before .before .before .before .before .before .before .before .before .before .before .slice-known .given j)) in omega (arith, c .before .before .rows-at .ensures))
     -- sub-settle-term-2
-    (λ c. let z = sizes (c .before .before .before .before .before .before .before .before .before .before .before .before .args .m) (c .before .before .before .before .before .before .before .before .before .before .before .before .args .kept .now) ((c .before .before .before .before .before .before .before .before .before .before .before .before .pre .0) .ready) in let hg = head-good (c .before .before .before .before .before .before .before .before .before .before .before .before .args .m) (c .before .before .before .before .before .before .before .before .before .before .before .before .args .kept .now) (c .before .before .before .before .before .before .before .before .before .before .before .before .args .answer .now) (c .before .before .before .before .before .before .before .before .before .before .before .before .pre .0) (λ j. omega (arith, c .before .before .before .before .before .before .before .before .before .before .before .slice-known .given j)) in omega arith)
+    (λ c. let z = sizes (c .before .before .before .before .before .before .before .before .before .before .before .before .before .before .args .m) (c .before .before .before .before .before .before .before .before .before .before .before .before .before .before .args .kept .now) ((c .before .before .before .before .before .before .before .before .before .before .before .before .before .before .pre .0) .ready) in let hg = head-good (c .before .before .before .before .before .before .before .before .before .before .before .before .before .before .args .m) (c .before .before .before .before .before .before .before .before .before .before .before .before .before .before .args .kept .now) (c .before .before .before .before .before .before .before .before .before .before .before .before .before .before .args .answer .now) (c .before .before .before .before .before .before .before .before .before .before .before .before .before .before .pre .0) (λ j. omega (arith, c .before .before .before .before .before .before .before .before .before .before .before .before .before .slice-known .given j)) in omega arith)
     -- part-settle-term-start-2
-    (λ c. let z = sizes (c .before .before .before .before .before .before .before .before .before .before .before .before .args .m) (c .before .before .before .before .before .before .before .before .before .before .before .before .args .kept .now) ((c .before .before .before .before .before .before .before .before .before .before .before .before .pre .0) .ready) in let hg = head-good (c .before .before .before .before .before .before .before .before .before .before .before .before .args .m) (c .before .before .before .before .before .before .before .before .before .before .before .before .args .kept .now) (c .before .before .before .before .before .before .before .before .before .before .before .before .args .answer .now) (c .before .before .before .before .before .before .before .before .before .before .before .before .pre .0) (λ j. omega (arith, c .before .before .before .before .before .before .before .before .before .before .before .slice-known .given j)) in omega arith)
+    (λ c. let z = sizes (c .before .before .before .before .before .before .before .before .before .before .before .before .before .before .args .m) (c .before .before .before .before .before .before .before .before .before .before .before .before .before .before .args .kept .now) ((c .before .before .before .before .before .before .before .before .before .before .before .before .before .before .pre .0) .ready) in let hg = head-good (c .before .before .before .before .before .before .before .before .before .before .before .before .before .before .args .m) (c .before .before .before .before .before .before .before .before .before .before .before .before .before .before .args .kept .now) (c .before .before .before .before .before .before .before .before .before .before .before .before .before .before .args .answer .now) (c .before .before .before .before .before .before .before .before .before .before .before .before .before .before .pre .0) (λ j. omega (arith, c .before .before .before .before .before .before .before .before .before .before .before .before .before .slice-known .given j)) in omega arith)
     -- part-settle-term-end-2
-    (λ c. let z = sizes (c .before .before .before .before .before .before .before .before .before .before .before .before .args .m) (c .before .before .before .before .before .before .before .before .before .before .before .before .args .kept .now) ((c .before .before .before .before .before .before .before .before .before .before .before .before .pre .0) .ready) in let hg = head-good (c .before .before .before .before .before .before .before .before .before .before .before .before .args .m) (c .before .before .before .before .before .before .before .before .before .before .before .before .args .kept .now) (c .before .before .before .before .before .before .before .before .before .before .before .before .args .answer .now) (c .before .before .before .before .before .before .before .before .before .before .before .before .pre .0) (λ j. omega (arith, c .before .before .before .before .before .before .before .before .before .before .before .slice-known .given j)) in omega arith)
+    (λ c. let z = sizes (c .before .before .before .before .before .before .before .before .before .before .before .before .before .before .args .m) (c .before .before .before .before .before .before .before .before .before .before .before .before .before .before .args .kept .now) ((c .before .before .before .before .before .before .before .before .before .before .before .before .before .before .pre .0) .ready) in let hg = head-good (c .before .before .before .before .before .before .before .before .before .before .before .before .before .before .args .m) (c .before .before .before .before .before .before .before .before .before .before .before .before .before .before .args .kept .now) (c .before .before .before .before .before .before .before .before .before .before .before .before .before .before .args .answer .now) (c .before .before .before .before .before .before .before .before .before .before .before .before .before .before .pre .0) (λ j. omega (arith, c .before .before .before .before .before .before .before .before .before .before .before .before .before .slice-known .given j)) in omega arith)
     -- settle-term-requires
-    (λ c κs. fitting (c .before .before .before .before .before .before .before .before .before .before .before .before .before .args .m) (c .before .before .before .before .before .before .before .before .before .before .before .before .before .args .kept .now) (c .before .before .before .before .before .before .before .before .before .before .before .before .before .args .answer .now) (c .before .before .before .before .before .before .before .before .before .before .before .before .before .pre .0) (λ j. omega (arith, c .before .before .before .before .before .before .before .before .before .before .before .before .slice-known .given j)) _ _ _ (c .before .before .before .before .before .rows-at .ensures) (c .before .before .before .row-count .ensures) (c .before .before .before .before .before .before .before .before .before .u32-at .ensures ∙ sym (number-at (c .before .before .before .before .before .before .before .before .before .before .before .before .before .args .answer .now))) _ (c .before .before .before .before .before .before .before .before .before .before .before .before .before .pre .1))
-    -- cast-rewrite
-    (λ c. let z = sizes (c .before .before .before .before .before .before .before .before .before .before .before .before .before .before .before .before .before .before .before .args .m) (c .before .before .before .before .before .before .before .before .before .before .before .before .before .before .before .before .before .before .before .args .kept .now) ((c .before .before .before .before .before .before .before .before .before .before .before .before .before .before .before .before .before .before .before .pre .0) .ready) in let hg = head-good (c .before .before .before .before .before .before .before .before .before .before .before .before .before .before .before .before .before .before .before .args .m) (c .before .before .before .before .before .before .before .before .before .before .before .before .before .before .before .before .before .before .before .args .kept .now) (c .before .before .before .before .before .before .before .before .before .before .before .before .before .before .before .before .before .before .before .args .answer .now) (c .before .before .before .before .before .before .before .before .before .before .before .before .before .before .before .before .before .before .before .pre .0) (λ j. omega (arith, c .before .before .before .before .before .before .before .before .before .before .before .before .before .before .before .before .before .before .slice-known .given j)) in omega (arith, c .before .before .before .before .before .settle-term .ensures .rows, rows-most (c .before .before .before .before .before .before .before .before .before .before .before .before .before .before .before .before .before .before .before .args .m) (c .before .before .before .before .before .before .before .before .before .before .before .before .before .before .before .before .before .before .before .args .kept .now) (c .before .before .before .before .before .before .before .before .before .before .before .before .before .before .before .before .before .before .before .args .answer .now) (c .before .before .before .before .before .before .before .before .before .before .before .before .before .before .before .before .before .before .before .pre .0) (λ j. omega (arith, c .before .before .before .before .before .before .before .before .before .before .before .before .before .before .before .before .before .before .slice-known .given j)) _ _ _ (c .before .before .before .before .before .before .before .before .before .before .before .rows-at .ensures) (c .before .before .before .before .before .before .before .before .before .row-count .ensures) (c .before .before .before .before .before .before .before .before .before .before .before .before .before .before .before .u32-at .ensures ∙ sym (number-at (c .before .before .before .before .before .before .before .before .before .before .before .before .before .before .before .before .before .before .before .args .answer .now)))))
-    -- rewrite-requires
-    (λ c κs. let z = sizes (c .before .before .before .before .before .before .before .before .before .before .before .before .before .before .before .before .before .before .before .args .m) (c .before .before .before .before .before .before .before .before .before .before .before .before .before .before .before .before .before .before .before .args .kept .now) ((c .before .before .before .before .before .before .before .before .before .before .before .before .before .before .before .before .before .before .before .pre .0) .ready) in let hg = head-good (c .before .before .before .before .before .before .before .before .before .before .before .before .before .before .before .before .before .before .before .args .m) (c .before .before .before .before .before .before .before .before .before .before .before .before .before .before .before .before .before .before .before .args .kept .now) (c .before .before .before .before .before .before .before .before .before .before .before .before .before .before .before .before .before .before .before .args .answer .now) (c .before .before .before .before .before .before .before .before .before .before .before .before .before .before .before .before .before .before .before .pre .0) (λ j. omega (arith, c .before .before .before .before .before .before .before .before .before .before .before .before .before .before .before .before .before .before .slice-known .given j)) in record { long = mid-length (c .before .before .before .before .before .before .before .before .before .before .before .before .before .before .before .before .before .before .before .args .kept .now) (c .before .before .before .before .before .settle-term .last .0) (c .before .before .before .before .before .before .before .before .before .before .before .rows-at .result) (length (c .before .before .before .before .before .before .before .before .before .before .before .before .before .before .before .before .before .before .before .args .kept .now) - c .before .before .before .before .before .before .before .before .before .before .before .rows-at .result) (omega (arith, c .before .before .before .before .before .before .before .before .before .before .before .rows-at .ensures)) (c .before .before .before .before .before .settle-term .kept .0 ∙ length-take-le (length (c .before .before .before .before .before .before .before .before .before .before .before .before .before .before .before .before .before .before .before .args .kept .now) - c .before .before .before .before .before .before .before .before .before .before .before .rows-at .result) (drop (c .before .before .before .before .before .before .before .before .before .before .before .rows-at .result) (c .before .before .before .before .before .before .before .before .before .before .before .before .before .before .before .before .before .before .before .args .kept .now)) (rw length-drop (omega arith))) ∙ (c .before .before .before .before .before .before .before .before .before .before .before .before .before .before .before .before .before .before .before .pre .0) .ready .long; calls = z .calls-most; counted = omega (arith, c .before .before .before .before .before .before .before .before .before .before .before .before .without .ensures .count, length-without (c .before .before .before .before .before .before .before .before .before .before .before .before .before .before .before .u32-at .result) (opened (c .before .before .before .before .before .before .before .before .before .before .before .before .before .open-list .result)), ap length (c .before .before .before .before .before .before .before .before .before .before .before .before .before .open-list .ensures .entries), call-total (c .before .before .before .before .before .before .before .before .before .before .before .before .before .before .before .before .before .before .before .args .m) (c .before .before .before .before .before .before .before .before .before .before .before .before .before .before .before .before .before .before .before .args .kept .now) z, z .calls) })
+    (λ c κs. fitting (c .before .before .before .before .before .before .before .before .before .before .before .before .before .before .before .args .m) (c .before .before .before .before .before .before .before .before .before .before .before .before .before .before .before .args .kept .now) (c .before .before .before .before .before .before .before .before .before .before .before .before .before .before .before .args .answer .now) (c .before .before .before .before .before .before .before .before .before .before .before .before .before .before .before .pre .0) (λ j. omega (arith, c .before .before .before .before .before .before .before .before .before .before .before .before .before .before .slice-known .given j)) _ _ _ (c .before .before .before .before .before .rows-at .ensures) (c .before .before .before .row-count .ensures) (c .before .before .before .before .before .before .before .before .before .before .before .u32-at .ensures ∙ sym (number-at (c .before .before .before .before .before .before .before .before .before .before .before .before .before .before .before .args .answer .now))) _ (c .before .before .before .before .before .before .before .before .before .before .before .before .before .before .before .pre .1))
+    -- renew-rows-requires
+    (λ c κs. let z = sizes (c .before .before .before .before .before .before .before .before .before .before .before .before .before .before .before .before .before .before .before .before .before .args .m) (c .before .before .before .before .before .before .before .before .before .before .before .before .before .before .before .before .before .before .before .before .before .args .kept .now) ((c .before .before .before .before .before .before .before .before .before .before .before .before .before .before .before .before .before .before .before .before .before .pre .0) .ready) in let hg = head-good (c .before .before .before .before .before .before .before .before .before .before .before .before .before .before .before .before .before .before .before .before .before .args .m) (c .before .before .before .before .before .before .before .before .before .before .before .before .before .before .before .before .before .before .before .before .before .args .kept .now) (c .before .before .before .before .before .before .before .before .before .before .before .before .before .before .before .before .before .before .before .before .before .args .answer .now) (c .before .before .before .before .before .before .before .before .before .before .before .before .before .before .before .before .before .before .before .before .before .pre .0) (λ j. omega (arith, c .before .before .before .before .before .before .before .before .before .before .before .before .before .before .before .before .before .before .before .before .slice-known .given j)) in (mid-length (c .before .before .before .before .before .before .before .before .before .before .before .before .before .before .before .before .before .before .before .before .before .args .kept .now) (c .before .before .before .before .before .settle-term .last .0) (c .before .before .before .before .before .before .before .before .before .before .before .rows-at .result) (length (c .before .before .before .before .before .before .before .before .before .before .before .before .before .before .before .before .before .before .before .before .before .args .kept .now) - c .before .before .before .before .before .before .before .before .before .before .before .rows-at .result) (omega (arith, c .before .before .before .before .before .before .before .before .before .before .before .rows-at .ensures)) (c .before .before .before .before .before .settle-term .kept .0 ∙ length-take-le (length (c .before .before .before .before .before .before .before .before .before .before .before .before .before .before .before .before .before .before .before .before .before .args .kept .now) - c .before .before .before .before .before .before .before .before .before .before .before .rows-at .result) (drop (c .before .before .before .before .before .before .before .before .before .before .before .rows-at .result) (c .before .before .before .before .before .before .before .before .before .before .before .before .before .before .before .before .before .before .before .before .before .args .kept .now)) (rw length-drop (omega arith))) ∙ (c .before .before .before .before .before .before .before .before .before .before .before .before .before .before .before .before .before .before .before .before .before .pre .0) .ready .long, omega (arith, c .before .before .before .before .before .settle-term .ensures .rows, rows-most (c .before .before .before .before .before .before .before .before .before .before .before .before .before .before .before .before .before .before .before .before .before .args .m) (c .before .before .before .before .before .before .before .before .before .before .before .before .before .before .before .before .before .before .before .before .before .args .kept .now) (c .before .before .before .before .before .before .before .before .before .before .before .before .before .before .before .before .before .before .before .before .before .args .answer .now) (c .before .before .before .before .before .before .before .before .before .before .before .before .before .before .before .before .before .before .before .before .before .pre .0) (λ j. omega (arith, c .before .before .before .before .before .before .before .before .before .before .before .before .before .before .before .before .before .before .before .before .slice-known .given j)) _ _ _ (c .before .before .before .before .before .before .before .before .before .before .before .rows-at .ensures) (c .before .before .before .before .before .before .before .before .before .row-count .ensures) (c .before .before .before .before .before .before .before .before .before .before .before .before .before .before .before .before .before .u32-at .ensures ∙ sym (number-at (c .before .before .before .before .before .before .before .before .before .before .before .before .before .before .before .before .before .before .before .before .before .args .answer .now))))))
+    -- renew-calls-requires
+    (λ c κs. let z = sizes (c .before .before .before .before .before .before .before .before .before .before .before .before .before .before .before .before .before .before .before .before .before .before .before .before .before .args .m) (c .before .before .before .before .before .before .before .before .before .before .before .before .before .before .before .before .before .before .before .before .before .before .before .before .before .args .kept .now) ((c .before .before .before .before .before .before .before .before .before .before .before .before .before .before .before .before .before .before .before .before .before .before .before .before .before .pre .0) .ready) in let hg = head-good (c .before .before .before .before .before .before .before .before .before .before .before .before .before .before .before .before .before .before .before .before .before .before .before .before .before .args .m) (c .before .before .before .before .before .before .before .before .before .before .before .before .before .before .before .before .before .before .before .before .before .before .before .before .before .args .kept .now) (c .before .before .before .before .before .before .before .before .before .before .before .before .before .before .before .before .before .before .before .before .before .before .before .before .before .args .answer .now) (c .before .before .before .before .before .before .before .before .before .before .before .before .before .before .before .before .before .before .before .before .before .before .before .before .before .pre .0) (λ j. omega (arith, c .before .before .before .before .before .before .before .before .before .before .before .before .before .before .before .before .before .before .before .before .before .before .before .before .slice-known .given j)) in let cn : c .before .before .before .before .before .before .before .before .before .before .before .before .before .before .before .before .before .before .without .result .count ≤ (c .before .before .before .before .before .before .before .before .before .before .before .before .before .before .before .before .before .before .before .before .before .before .before .before .before .args .m) .calls = omega (arith, c .before .before .before .before .before .before .before .before .before .before .before .before .before .before .before .before .before .before .without .ensures .count, length-without (c .before .before .before .before .before .before .before .before .before .before .before .before .before .before .before .before .before .before .before .before .before .u32-at .result) (opened (c .before .before .before .before .before .before .before .before .before .before .before .before .before .before .before .before .before .before .before .open-list .result)), ap length (c .before .before .before .before .before .before .before .before .before .before .before .before .before .before .before .before .before .before .before .open-list .ensures .entries), call-total (c .before .before .before .before .before .before .before .before .before .before .before .before .before .before .before .before .before .before .before .before .before .before .before .before .before .args .m) (c .before .before .before .before .before .before .before .before .before .before .before .before .before .before .before .before .before .before .before .before .before .before .before .before .before .args .kept .now) z, z .calls) in (c .before .before .before .renew-rows .kept .0 ∙ mid-length (c .before .before .before .before .before .before .before .before .before .before .before .before .before .before .before .before .before .before .before .before .before .before .before .before .before .args .kept .now) (c .before .before .before .before .before .before .before .before .before .settle-term .last .0) (c .before .before .before .before .before .before .before .before .before .before .before .before .before .before .before .rows-at .result) (length (c .before .before .before .before .before .before .before .before .before .before .before .before .before .before .before .before .before .before .before .before .before .before .before .before .before .args .kept .now) - c .before .before .before .before .before .before .before .before .before .before .before .before .before .before .before .rows-at .result) (omega (arith, c .before .before .before .before .before .before .before .before .before .before .before .before .before .before .before .rows-at .ensures)) (c .before .before .before .before .before .before .before .before .before .settle-term .kept .0 ∙ length-take-le (length (c .before .before .before .before .before .before .before .before .before .before .before .before .before .before .before .before .before .before .before .before .before .before .before .before .before .args .kept .now) - c .before .before .before .before .before .before .before .before .before .before .before .before .before .before .before .rows-at .result) (drop (c .before .before .before .before .before .before .before .before .before .before .before .before .before .before .before .rows-at .result) (c .before .before .before .before .before .before .before .before .before .before .before .before .before .before .before .before .before .before .before .before .before .before .before .before .before .args .kept .now)) (rw length-drop (omega arith))) ∙ (c .before .before .before .before .before .before .before .before .before .before .before .before .before .before .before .before .before .before .before .before .before .before .before .before .before .pre .0) .ready .long, omega arith, omega arith))
     -- same-length
-    (λ c. let z = sizes (c .before .before .before .before .before .before .before .before .before .before .before .before .before .before .before .before .before .before .before .before .before .before .args .m) (c .before .before .before .before .before .before .before .before .before .before .before .before .before .before .before .before .before .before .before .before .before .before .args .kept .now) ((c .before .before .before .before .before .before .before .before .before .before .before .before .before .before .before .before .before .before .before .before .before .before .pre .0) .ready) in let hg = head-good (c .before .before .before .before .before .before .before .before .before .before .before .before .before .before .before .before .before .before .before .before .before .before .args .m) (c .before .before .before .before .before .before .before .before .before .before .before .before .before .before .before .before .before .before .before .before .before .before .args .kept .now) (c .before .before .before .before .before .before .before .before .before .before .before .before .before .before .before .before .before .before .before .before .before .before .args .answer .now) (c .before .before .before .before .before .before .before .before .before .before .before .before .before .before .before .before .before .before .before .before .before .before .pre .0) (λ j. omega (arith, c .before .before .before .before .before .before .before .before .before .before .before .before .before .before .before .before .before .before .before .before .before .slice-known .given j)) in c .before .before .rewrite .kept .0 ∙ mid-length (c .before .before .before .before .before .before .before .before .before .before .before .before .before .before .before .before .before .before .before .before .before .before .args .kept .now) (c .before .before .before .before .before .before .before .before .settle-term .last .0) (c .before .before .before .before .before .before .before .before .before .before .before .before .before .before .rows-at .result) (length (c .before .before .before .before .before .before .before .before .before .before .before .before .before .before .before .before .before .before .before .before .before .before .args .kept .now) - c .before .before .before .before .before .before .before .before .before .before .before .before .before .before .rows-at .result) (omega (arith, c .before .before .before .before .before .before .before .before .before .before .before .before .before .before .rows-at .ensures)) (c .before .before .before .before .before .before .before .before .settle-term .kept .0 ∙ length-take-le (length (c .before .before .before .before .before .before .before .before .before .before .before .before .before .before .before .before .before .before .before .before .before .before .args .kept .now) - c .before .before .before .before .before .before .before .before .before .before .before .before .before .before .rows-at .result) (drop (c .before .before .before .before .before .before .before .before .before .before .before .before .before .before .rows-at .result) (c .before .before .before .before .before .before .before .before .before .before .before .before .before .before .before .before .before .before .before .before .before .before .args .kept .now)) (rw length-drop (omega arith))))
+    (λ c. let z = sizes (c .before .before .before .before .before .before .before .before .before .before .before .before .before .before .before .before .before .before .before .before .before .before .before .before .before .before .before .before .args .m) (c .before .before .before .before .before .before .before .before .before .before .before .before .before .before .before .before .before .before .before .before .before .before .before .before .before .before .before .before .args .kept .now) ((c .before .before .before .before .before .before .before .before .before .before .before .before .before .before .before .before .before .before .before .before .before .before .before .before .before .before .before .before .pre .0) .ready) in let hg = head-good (c .before .before .before .before .before .before .before .before .before .before .before .before .before .before .before .before .before .before .before .before .before .before .before .before .before .before .before .before .args .m) (c .before .before .before .before .before .before .before .before .before .before .before .before .before .before .before .before .before .before .before .before .before .before .before .before .before .before .before .before .args .kept .now) (c .before .before .before .before .before .before .before .before .before .before .before .before .before .before .before .before .before .before .before .before .before .before .before .before .before .before .before .before .args .answer .now) (c .before .before .before .before .before .before .before .before .before .before .before .before .before .before .before .before .before .before .before .before .before .before .before .before .before .before .before .before .pre .0) (λ j. omega (arith, c .before .before .before .before .before .before .before .before .before .before .before .before .before .before .before .before .before .before .before .before .before .before .before .before .before .before .before .slice-known .given j)) in c .before .before .renew-calls .kept .0 ∙ c .before .before .before .before .before .before .renew-rows .kept .0 ∙ mid-length (c .before .before .before .before .before .before .before .before .before .before .before .before .before .before .before .before .before .before .before .before .before .before .before .before .before .before .before .before .args .kept .now) (c .before .before .before .before .before .before .before .before .before .before .before .before .settle-term .last .0) (c .before .before .before .before .before .before .before .before .before .before .before .before .before .before .before .before .before .before .rows-at .result) (length (c .before .before .before .before .before .before .before .before .before .before .before .before .before .before .before .before .before .before .before .before .before .before .before .before .before .before .before .before .args .kept .now) - c .before .before .before .before .before .before .before .before .before .before .before .before .before .before .before .before .before .before .rows-at .result) (omega (arith, c .before .before .before .before .before .before .before .before .before .before .before .before .before .before .before .before .before .before .rows-at .ensures)) (c .before .before .before .before .before .before .before .before .before .before .before .before .settle-term .kept .0 ∙ length-take-le (length (c .before .before .before .before .before .before .before .before .before .before .before .before .before .before .before .before .before .before .before .before .before .before .before .before .before .before .before .before .args .kept .now) - c .before .before .before .before .before .before .before .before .before .before .before .before .before .before .before .before .before .before .rows-at .result) (drop (c .before .before .before .before .before .before .before .before .before .before .before .before .before .before .before .before .before .before .rows-at .result) (c .before .before .before .before .before .before .before .before .before .before .before .before .before .before .before .before .before .before .before .before .before .before .before .before .before .before .before .before .args .kept .now)) (rw length-drop (omega arith))))
     -- same-length-2
-    (λ c. c .before .before .before .before .before .before .before .before .settle-term .kept .1 .1 .0)
+    (λ c. c .before .before .before .before .before .before .before .before .before .before .before .before .settle-term .kept .1 .1 .0)
     -- returns
-    (λ c. let z = sizes (c .before .before .before .before .before .before .before .before .before .before .before .before .before .before .before .before .before .before .before .before .before .before .args .m) (c .before .before .before .before .before .before .before .before .before .before .before .before .before .before .before .before .before .before .before .before .before .before .args .kept .now) ((c .before .before .before .before .before .before .before .before .before .before .before .before .before .before .before .before .before .before .before .before .before .before .pre .0) .ready) in let hg = head-good (c .before .before .before .before .before .before .before .before .before .before .before .before .before .before .before .before .before .before .before .before .before .before .args .m) (c .before .before .before .before .before .before .before .before .before .before .before .before .before .before .before .before .before .before .before .before .before .before .args .kept .now) (c .before .before .before .before .before .before .before .before .before .before .before .before .before .before .before .before .before .before .before .before .before .before .args .answer .now) (c .before .before .before .before .before .before .before .before .before .before .before .before .before .before .before .before .before .before .before .before .before .before .pre .0) (λ j. omega (arith, c .before .before .before .before .before .before .before .before .before .before .before .before .before .before .before .before .before .before .before .before .before .slice-known .given j)) in (c .before .before .rewrite .ensures ∙ record-replied (c .before .before .before .before .before .before .before .before .before .before .before .before .before .before .before .before .before .before .before .before .before .before .args .m) (c .before .before .before .before .before .before .before .before .before .before .before .before .before .before .before .before .before .before .before .before .before .before .args .kept .now) (c .before .before .before .before .before .before .before .before .before .before .before .before .before .before .before .before .before .before .before .before .before .before .args .answer .now) (c .before .before .before .before .before .before .before .before .before .before .before .before .before .before .before .before .before .before .before .before .before .before .pre .0) (λ j. omega (arith, c .before .before .before .before .before .before .before .before .before .before .before .before .before .before .before .before .before .before .before .before .before .slice-known .given j)) _ _ _ (c .before .before .before .before .before .before .before .before .before .before .before .before .before .before .rows-at .ensures) (c .before .before .before .before .before .before .before .before .before .before .before .before .row-count .ensures) (c .before .before .before .before .before .before .before .before .before .before .before .before .before .before .before .before .before .before .u32-at .ensures ∙ sym (number-at (c .before .before .before .before .before .before .before .before .before .before .before .before .before .before .before .before .before .before .before .before .before .before .args .answer .now))) _ _ _ _ _ (c .before .before .before .before .before .before .before .before .settle-term .ensures .bytes) refl (c .before .before .before .before .before .before .before .before .before .before .before .before .before .before .before .without .ensures .entries ∙ ap (without (c .before .before .before .before .before .before .before .before .before .before .before .before .before .before .before .before .before .before .u32-at .result)) (c .before .before .before .before .before .before .before .before .before .before .before .before .before .before .before .before .open-list .ensures .entries)) (c .before .before .before .before .before .before .before .before .before .before .before .before .before .before .before .without .ensures .count ∙ ap length (sym (c .before .before .before .before .before .before .before .before .before .before .before .before .before .before .before .without .ensures .entries))) (c .before .before .before .before .before .before .before .before .settle-term .ensures .rows), c .before .before .before .before .before .before .before .before .settle-term .ensures .cleared)))
+    (λ c. let z = sizes (c .before .before .before .before .before .before .before .before .before .before .before .before .before .before .before .before .before .before .before .before .before .before .before .before .before .before .before .before .args .m) (c .before .before .before .before .before .before .before .before .before .before .before .before .before .before .before .before .before .before .before .before .before .before .before .before .before .before .before .before .args .kept .now) ((c .before .before .before .before .before .before .before .before .before .before .before .before .before .before .before .before .before .before .before .before .before .before .before .before .before .before .before .before .pre .0) .ready) in let hg = head-good (c .before .before .before .before .before .before .before .before .before .before .before .before .before .before .before .before .before .before .before .before .before .before .before .before .before .before .before .before .args .m) (c .before .before .before .before .before .before .before .before .before .before .before .before .before .before .before .before .before .before .before .before .before .before .before .before .before .before .before .before .args .kept .now) (c .before .before .before .before .before .before .before .before .before .before .before .before .before .before .before .before .before .before .before .before .before .before .before .before .before .before .before .before .args .answer .now) (c .before .before .before .before .before .before .before .before .before .before .before .before .before .before .before .before .before .before .before .before .before .before .before .before .before .before .before .before .pre .0) (λ j. omega (arith, c .before .before .before .before .before .before .before .before .before .before .before .before .before .before .before .before .before .before .before .before .before .before .before .before .before .before .before .slice-known .given j)) in (c .before .before .renew-calls .ensures _ (c .before .before .before .before .before .before .before .before .before .before .before .before .before .before .before .before .before .before .before .before .before .without .ensures) _ (roomy-settled (c .before .before .before .before .before .before .before .before .before .before .before .before .before .before .before .before .before .before .before .before .before .before .before .before .before .before .before .before .args .m) (c .before .before .before .before .before .before .before .before .before .before .before .before .before .before .before .before .before .before .before .before .before .before .before .before .before .before .before .before .args .kept .now) (c .before .before .before .before .before .before .before .before .before .before .before .before .before .before .before .before .before .before .before .before .before .before .before .before .before .before .before .before .args .answer .now) (c .before .before .before .before .before .before .before .before .before .before .before .before .before .before .before .before .before .before .before .before .before .before .before .before .before .before .before .before .pre .0) (λ j. omega (arith, c .before .before .before .before .before .before .before .before .before .before .before .before .before .before .before .before .before .before .before .before .before .before .before .before .before .before .before .slice-known .given j)) _ _ _ (c .before .before .before .before .before .before .before .before .before .before .before .before .before .before .before .before .before .before .rows-at .ensures) (c .before .before .before .before .before .before .before .before .before .before .before .before .before .before .before .before .row-count .ensures) (c .before .before .before .before .before .before .before .before .before .before .before .before .before .before .before .before .before .before .before .before .before .before .before .before .u32-at .ensures ∙ sym (number-at (c .before .before .before .before .before .before .before .before .before .before .before .before .before .before .before .before .before .before .before .before .before .before .before .before .before .before .before .before .args .answer .now)))) (c .before .before .before .before .before .before .renew-rows .ensures _ _ (holding (c .before .before .before .before .before .before .before .before .before .before .before .before .before .before .before .before .before .before .before .before .before .before .before .before .before .before .before .before .args .m) (c .before .before .before .before .before .before .before .before .before .before .before .before .before .before .before .before .before .before .before .before .before .before .before .before .before .before .before .before .args .kept .now) (c .before .before .before .before .before .before .before .before .before .before .before .before .before .before .before .before .before .before .before .before .before .before .before .before .before .before .before .before .args .answer .now) (c .before .before .before .before .before .before .before .before .before .before .before .before .before .before .before .before .before .before .before .before .before .before .before .before .before .before .before .before .pre .0) (λ j. omega (arith, c .before .before .before .before .before .before .before .before .before .before .before .before .before .before .before .before .before .before .before .before .before .before .before .before .before .before .before .slice-known .given j)) _ _ _ (c .before .before .before .before .before .before .before .before .before .before .before .before .before .before .before .before .before .before .rows-at .ensures) (c .before .before .before .before .before .before .before .before .before .before .before .before .before .before .before .before .row-count .ensures) (c .before .before .before .before .before .before .before .before .before .before .before .before .before .before .before .before .before .before .before .before .before .before .before .before .u32-at .ensures ∙ sym (number-at (c .before .before .before .before .before .before .before .before .before .before .before .before .before .before .before .before .before .before .before .before .before .before .before .before .before .before .before .before .args .answer .now))) _ (c .before .before .before .before .before .before .before .before .before .before .before .before .settle-term .last .0) _ (c .before .before .before .before .before .before .before .before .before .before .before .before .settle-term .ensures .bytes) refl (c .before .before .before .before .before .before .before .before .before .before .before .before .settle-term .ensures .rows))) ∙ ap (λ (x : State). recordOf (board (c .before .before .before .before .before .before .before .before .before .before .before .before .before .before .before .before .before .before .before .before .before .before .before .before .before .before .before .before .args .m)) x) (recalled-is (c .before .before .before .before .before .before .before .before .before .before .before .before .before .before .before .before .before .before .before .before .before .before .before .before .before .before .before .before .args .m) (c .before .before .before .before .before .before .before .before .before .before .before .before .before .before .before .before .before .before .before .before .before .before .before .before .before .before .before .before .args .kept .now) (c .before .before .before .before .before .before .before .before .before .before .before .before .before .before .before .before .before .before .before .before .before .before .before .before .before .before .before .before .args .answer .now) (c .before .before .before .before .before .before .before .before .before .before .before .before .before .before .before .before .before .before .before .before .before .before .before .before .before .before .before .before .pre .0) (λ j. omega (arith, c .before .before .before .before .before .before .before .before .before .before .before .before .before .before .before .before .before .before .before .before .before .before .before .before .before .before .before .slice-known .given j)) _ _ _ (c .before .before .before .before .before .before .before .before .before .before .before .before .before .before .before .before .before .before .rows-at .ensures) (c .before .before .before .before .before .before .before .before .before .before .before .before .before .before .before .before .row-count .ensures) (c .before .before .before .before .before .before .before .before .before .before .before .before .before .before .before .before .before .before .before .before .before .before .before .before .u32-at .ensures ∙ sym (number-at (c .before .before .before .before .before .before .before .before .before .before .before .before .before .before .before .before .before .before .before .before .before .before .before .before .before .before .before .before .args .answer .now))) _ _ (ap (without (c .before .before .before .before .before .before .before .before .before .before .before .before .before .before .before .before .before .before .before .before .before .before .before .before .u32-at .result)) (c .before .before .before .before .before .before .before .before .before .before .before .before .before .before .before .before .before .before .before .before .before .before .open-list .ensures .entries)) (c .before .before .before .before .before .before .before .before .before .before .before .before .before .before .before .before .before .before .before .next-number .ensures)), c .before .before .before .before .before .before .before .before .before .before .before .before .settle-term .ensures .cleared)))
