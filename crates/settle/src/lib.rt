@@ -103,7 +103,8 @@ pub fn settle(kept: &mut [u8], work: &mut [u8], answer: &[u8], m: Limits)
     ensures { λ _. ⌜ (now (kept .exit) ≡ recordOf (board m) (repliedState (stateOf (board m) (now (kept .entry))) (now (answer .entry)))) × (now (work .exit) ≡ replicate (length (now (work .entry))) 0) ⌝ }
 {
     let number = layout::u32_at(answer, 0);
-    let list = sound::open_list(kept, m).without(number);
+    let calls = sound::open_list(kept, m);
+    let left = calls.without(number);
     let next = sound::head::next_number(kept);
     let at = layout::rows_at(m);
     let used = layout::TERM_ROW * sound::head::row_count(kept) as usize;
@@ -115,5 +116,5 @@ pub fn settle(kept: &mut [u8], work: &mut [u8], answer: &[u8], m: Limits)
         number,
     );
     keep::renew_rows(kept, m, rows);
-    keep::renew_calls(kept, m, list, next);
+    keep::renew_calls(kept, m, left, next);
 }

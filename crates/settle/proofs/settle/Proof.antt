@@ -1,5 +1,5 @@
 -- `settle::settle` meets its contract: the term in its place, then the row count, then the list. Assumes nothing.
-use Prim.Native.Nat.{_-_, _≤_}
+use Prim.Native.Nat.{_-_}
 use mathlib.Core.Path.{refl, sym, ap, _∙_}
 use native.Mathlib.Omega.{arith}
 use lib.ListN.{length, drop, length-drop}
@@ -51,7 +51,7 @@ settle-spec =
     -- renew-rows-requires
     (λ c κs. let z = sizes (c .before .before .before .before .before .before .before .before .before .before .before .before .before .before .before .before .before .before .before .before .before .args .m) (c .before .before .before .before .before .before .before .before .before .before .before .before .before .before .before .before .before .before .before .before .before .args .kept .now) ((c .before .before .before .before .before .before .before .before .before .before .before .before .before .before .before .before .before .before .before .before .before .pre .0) .ready) in let hg = head-good (c .before .before .before .before .before .before .before .before .before .before .before .before .before .before .before .before .before .before .before .before .before .args .m) (c .before .before .before .before .before .before .before .before .before .before .before .before .before .before .before .before .before .before .before .before .before .args .kept .now) (c .before .before .before .before .before .before .before .before .before .before .before .before .before .before .before .before .before .before .before .before .before .args .answer .now) (c .before .before .before .before .before .before .before .before .before .before .before .before .before .before .before .before .before .before .before .before .before .pre .0) (λ j. omega (arith, c .before .before .before .before .before .before .before .before .before .before .before .before .before .before .before .before .before .before .before .before .slice-known .given j)) in (mid-length (c .before .before .before .before .before .before .before .before .before .before .before .before .before .before .before .before .before .before .before .before .before .args .kept .now) (c .before .before .before .before .before .settle-term .last .0) (c .before .before .before .before .before .before .before .before .before .before .before .rows-at .result) (length (c .before .before .before .before .before .before .before .before .before .before .before .before .before .before .before .before .before .before .before .before .before .args .kept .now) - c .before .before .before .before .before .before .before .before .before .before .before .rows-at .result) (omega (arith, c .before .before .before .before .before .before .before .before .before .before .before .rows-at .ensures)) (c .before .before .before .before .before .settle-term .kept .0 ∙ length-take-le (length (c .before .before .before .before .before .before .before .before .before .before .before .before .before .before .before .before .before .before .before .before .before .args .kept .now) - c .before .before .before .before .before .before .before .before .before .before .before .rows-at .result) (drop (c .before .before .before .before .before .before .before .before .before .before .before .rows-at .result) (c .before .before .before .before .before .before .before .before .before .before .before .before .before .before .before .before .before .before .before .before .before .args .kept .now)) (rw length-drop (omega arith))) ∙ (c .before .before .before .before .before .before .before .before .before .before .before .before .before .before .before .before .before .before .before .before .before .pre .0) .ready .long, omega (arith, c .before .before .before .before .before .settle-term .ensures .rows, rows-most (c .before .before .before .before .before .before .before .before .before .before .before .before .before .before .before .before .before .before .before .before .before .args .m) (c .before .before .before .before .before .before .before .before .before .before .before .before .before .before .before .before .before .before .before .before .before .args .kept .now) (c .before .before .before .before .before .before .before .before .before .before .before .before .before .before .before .before .before .before .before .before .before .args .answer .now) (c .before .before .before .before .before .before .before .before .before .before .before .before .before .before .before .before .before .before .before .before .before .pre .0) (λ j. omega (arith, c .before .before .before .before .before .before .before .before .before .before .before .before .before .before .before .before .before .before .before .before .slice-known .given j)) _ _ _ (c .before .before .before .before .before .before .before .before .before .before .before .rows-at .ensures) (c .before .before .before .before .before .before .before .before .before .row-count .ensures) (c .before .before .before .before .before .before .before .before .before .before .before .before .before .before .before .before .before .u32-at .ensures ∙ sym (number-at (c .before .before .before .before .before .before .before .before .before .before .before .before .before .before .before .before .before .before .before .before .before .args .answer .now))))))
     -- renew-calls-requires
-    (λ c κs. let z = sizes (c .before .before .before .before .before .before .before .before .before .before .before .before .before .before .before .before .before .before .before .before .before .before .before .before .before .args .m) (c .before .before .before .before .before .before .before .before .before .before .before .before .before .before .before .before .before .before .before .before .before .before .before .before .before .args .kept .now) ((c .before .before .before .before .before .before .before .before .before .before .before .before .before .before .before .before .before .before .before .before .before .before .before .before .before .pre .0) .ready) in let hg = head-good (c .before .before .before .before .before .before .before .before .before .before .before .before .before .before .before .before .before .before .before .before .before .before .before .before .before .args .m) (c .before .before .before .before .before .before .before .before .before .before .before .before .before .before .before .before .before .before .before .before .before .before .before .before .before .args .kept .now) (c .before .before .before .before .before .before .before .before .before .before .before .before .before .before .before .before .before .before .before .before .before .before .before .before .before .args .answer .now) (c .before .before .before .before .before .before .before .before .before .before .before .before .before .before .before .before .before .before .before .before .before .before .before .before .before .pre .0) (λ j. omega (arith, c .before .before .before .before .before .before .before .before .before .before .before .before .before .before .before .before .before .before .before .before .before .before .before .before .slice-known .given j)) in let cn : c .before .before .before .before .before .before .before .before .before .before .before .before .before .before .before .before .before .before .without .result .count ≤ (c .before .before .before .before .before .before .before .before .before .before .before .before .before .before .before .before .before .before .before .before .before .before .before .before .before .args .m) .calls = omega (arith, c .before .before .before .before .before .before .before .before .before .before .before .before .before .before .before .before .before .before .without .ensures .count, length-without (c .before .before .before .before .before .before .before .before .before .before .before .before .before .before .before .before .before .before .before .before .before .u32-at .result) (opened (c .before .before .before .before .before .before .before .before .before .before .before .before .before .before .before .before .before .before .before .open-list .result)), ap length (c .before .before .before .before .before .before .before .before .before .before .before .before .before .before .before .before .before .before .before .open-list .ensures .entries), call-total (c .before .before .before .before .before .before .before .before .before .before .before .before .before .before .before .before .before .before .before .before .before .before .before .before .before .args .m) (c .before .before .before .before .before .before .before .before .before .before .before .before .before .before .before .before .before .before .before .before .before .before .before .before .before .args .kept .now) z, z .calls) in (c .before .before .before .renew-rows .kept .0 ∙ mid-length (c .before .before .before .before .before .before .before .before .before .before .before .before .before .before .before .before .before .before .before .before .before .before .before .before .before .args .kept .now) (c .before .before .before .before .before .before .before .before .before .settle-term .last .0) (c .before .before .before .before .before .before .before .before .before .before .before .before .before .before .before .rows-at .result) (length (c .before .before .before .before .before .before .before .before .before .before .before .before .before .before .before .before .before .before .before .before .before .before .before .before .before .args .kept .now) - c .before .before .before .before .before .before .before .before .before .before .before .before .before .before .before .rows-at .result) (omega (arith, c .before .before .before .before .before .before .before .before .before .before .before .before .before .before .before .rows-at .ensures)) (c .before .before .before .before .before .before .before .before .before .settle-term .kept .0 ∙ length-take-le (length (c .before .before .before .before .before .before .before .before .before .before .before .before .before .before .before .before .before .before .before .before .before .before .before .before .before .args .kept .now) - c .before .before .before .before .before .before .before .before .before .before .before .before .before .before .before .rows-at .result) (drop (c .before .before .before .before .before .before .before .before .before .before .before .before .before .before .before .rows-at .result) (c .before .before .before .before .before .before .before .before .before .before .before .before .before .before .before .before .before .before .before .before .before .before .before .before .before .args .kept .now)) (rw length-drop (omega arith))) ∙ (c .before .before .before .before .before .before .before .before .before .before .before .before .before .before .before .before .before .before .before .before .before .before .before .before .before .pre .0) .ready .long, omega arith, omega arith))
+    (λ c κs. let z = sizes (c .before .before .before .before .before .before .before .before .before .before .before .before .before .before .before .before .before .before .before .before .before .before .before .before .before .args .m) (c .before .before .before .before .before .before .before .before .before .before .before .before .before .before .before .before .before .before .before .before .before .before .before .before .before .args .kept .now) ((c .before .before .before .before .before .before .before .before .before .before .before .before .before .before .before .before .before .before .before .before .before .before .before .before .before .pre .0) .ready) in let hg = head-good (c .before .before .before .before .before .before .before .before .before .before .before .before .before .before .before .before .before .before .before .before .before .before .before .before .before .args .m) (c .before .before .before .before .before .before .before .before .before .before .before .before .before .before .before .before .before .before .before .before .before .before .before .before .before .args .kept .now) (c .before .before .before .before .before .before .before .before .before .before .before .before .before .before .before .before .before .before .before .before .before .before .before .before .before .args .answer .now) (c .before .before .before .before .before .before .before .before .before .before .before .before .before .before .before .before .before .before .before .before .before .before .before .before .before .pre .0) (λ j. omega (arith, c .before .before .before .before .before .before .before .before .before .before .before .before .before .before .before .before .before .before .before .before .before .before .before .before .slice-known .given j)) in (c .before .before .before .renew-rows .kept .0 ∙ mid-length (c .before .before .before .before .before .before .before .before .before .before .before .before .before .before .before .before .before .before .before .before .before .before .before .before .before .args .kept .now) (c .before .before .before .before .before .before .before .before .before .settle-term .last .0) (c .before .before .before .before .before .before .before .before .before .before .before .before .before .before .before .rows-at .result) (length (c .before .before .before .before .before .before .before .before .before .before .before .before .before .before .before .before .before .before .before .before .before .before .before .before .before .args .kept .now) - c .before .before .before .before .before .before .before .before .before .before .before .before .before .before .before .rows-at .result) (omega (arith, c .before .before .before .before .before .before .before .before .before .before .before .before .before .before .before .rows-at .ensures)) (c .before .before .before .before .before .before .before .before .before .settle-term .kept .0 ∙ length-take-le (length (c .before .before .before .before .before .before .before .before .before .before .before .before .before .before .before .before .before .before .before .before .before .before .before .before .before .args .kept .now) - c .before .before .before .before .before .before .before .before .before .before .before .before .before .before .before .rows-at .result) (drop (c .before .before .before .before .before .before .before .before .before .before .before .before .before .before .before .rows-at .result) (c .before .before .before .before .before .before .before .before .before .before .before .before .before .before .before .before .before .before .before .before .before .before .before .before .before .args .kept .now)) (rw length-drop (omega arith))) ∙ (c .before .before .before .before .before .before .before .before .before .before .before .before .before .before .before .before .before .before .before .before .before .before .before .before .before .pre .0) .ready .long, omega (arith, c .before .before .before .before .before .before .before .before .before .before .before .before .before .before .before .before .before .before .without .ensures .count, length-without (c .before .before .before .before .before .before .before .before .before .before .before .before .before .before .before .before .before .before .before .before .before .u32-at .result) (opened (c .before .before .before .before .before .before .before .before .before .before .before .before .before .before .before .before .before .before .before .open-list .result)), ap length (c .before .before .before .before .before .before .before .before .before .before .before .before .before .before .before .before .before .before .before .open-list .ensures .entries), c .before .before .before .before .before .before .before .before .before .before .before .before .before .before .before .before .before .before .before .open-list .ensures .count, call-total (c .before .before .before .before .before .before .before .before .before .before .before .before .before .before .before .before .before .before .before .before .before .before .before .before .before .args .m) (c .before .before .before .before .before .before .before .before .before .before .before .before .before .before .before .before .before .before .before .before .before .before .before .before .before .args .kept .now) z, z .calls), omega (arith, c .before .before .before .before .before .before .before .before .before .before .before .before .before .before .before .before .before .before .without .ensures .count, length-without (c .before .before .before .before .before .before .before .before .before .before .before .before .before .before .before .before .before .before .before .before .before .u32-at .result) (opened (c .before .before .before .before .before .before .before .before .before .before .before .before .before .before .before .before .before .before .before .open-list .result)), ap length (c .before .before .before .before .before .before .before .before .before .before .before .before .before .before .before .before .before .before .before .open-list .ensures .entries), c .before .before .before .before .before .before .before .before .before .before .before .before .before .before .before .before .before .before .before .open-list .ensures .count, call-total (c .before .before .before .before .before .before .before .before .before .before .before .before .before .before .before .before .before .before .before .before .before .before .before .before .before .args .m) (c .before .before .before .before .before .before .before .before .before .before .before .before .before .before .before .before .before .before .before .before .before .before .before .before .before .args .kept .now) z, z .calls)))
     -- same-length
     (λ c. let z = sizes (c .before .before .before .before .before .before .before .before .before .before .before .before .before .before .before .before .before .before .before .before .before .before .before .before .before .before .before .before .args .m) (c .before .before .before .before .before .before .before .before .before .before .before .before .before .before .before .before .before .before .before .before .before .before .before .before .before .before .before .before .args .kept .now) ((c .before .before .before .before .before .before .before .before .before .before .before .before .before .before .before .before .before .before .before .before .before .before .before .before .before .before .before .before .pre .0) .ready) in let hg = head-good (c .before .before .before .before .before .before .before .before .before .before .before .before .before .before .before .before .before .before .before .before .before .before .before .before .before .before .before .before .args .m) (c .before .before .before .before .before .before .before .before .before .before .before .before .before .before .before .before .before .before .before .before .before .before .before .before .before .before .before .before .args .kept .now) (c .before .before .before .before .before .before .before .before .before .before .before .before .before .before .before .before .before .before .before .before .before .before .before .before .before .before .before .before .args .answer .now) (c .before .before .before .before .before .before .before .before .before .before .before .before .before .before .before .before .before .before .before .before .before .before .before .before .before .before .before .before .pre .0) (λ j. omega (arith, c .before .before .before .before .before .before .before .before .before .before .before .before .before .before .before .before .before .before .before .before .before .before .before .before .before .before .before .slice-known .given j)) in c .before .before .renew-calls .kept .0 ∙ c .before .before .before .before .before .before .renew-rows .kept .0 ∙ mid-length (c .before .before .before .before .before .before .before .before .before .before .before .before .before .before .before .before .before .before .before .before .before .before .before .before .before .before .before .before .args .kept .now) (c .before .before .before .before .before .before .before .before .before .before .before .before .settle-term .last .0) (c .before .before .before .before .before .before .before .before .before .before .before .before .before .before .before .before .before .before .rows-at .result) (length (c .before .before .before .before .before .before .before .before .before .before .before .before .before .before .before .before .before .before .before .before .before .before .before .before .before .before .before .before .args .kept .now) - c .before .before .before .before .before .before .before .before .before .before .before .before .before .before .before .before .before .before .rows-at .result) (omega (arith, c .before .before .before .before .before .before .before .before .before .before .before .before .before .before .before .before .before .before .rows-at .ensures)) (c .before .before .before .before .before .before .before .before .before .before .before .before .settle-term .kept .0 ∙ length-take-le (length (c .before .before .before .before .before .before .before .before .before .before .before .before .before .before .before .before .before .before .before .before .before .before .before .before .before .before .before .before .args .kept .now) - c .before .before .before .before .before .before .before .before .before .before .before .before .before .before .before .before .before .before .rows-at .result) (drop (c .before .before .before .before .before .before .before .before .before .before .before .before .before .before .before .before .before .before .rows-at .result) (c .before .before .before .before .before .before .before .before .before .before .before .before .before .before .before .before .before .before .before .before .before .before .before .before .before .before .before .before .args .kept .now)) (rw length-drop (omega arith))))
     -- same-length-2
