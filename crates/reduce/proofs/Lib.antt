@@ -1,1 +1,9 @@
 pub mod Quiet
+pub mod Roots
+pub mod Kept
+pub mod Bound
+pub mod Given
+pub mod Zipped
+pub mod Parted
+pub mod Filled
+pub mod Told

@@ -5,16 +5,21 @@ use mathlib.Core.Bool.{Bool, true, false, cond}
 use mathlib.Core.List.{List, [], _∷_, map}
 use mathlib.Core.Option.{Option, none, some}
 use lib.Dec.{eqb}
-use lib.ListN.{length, length-map}
+use lib.ListN.{length, getD, length-map}
 use Rattle.layout.specs.Rows.{rowTable, termRows}
-use Rattle.meaning.specs.Bytes.{_∧ᵇ_}
+use Rattle.meaning.specs.Bytes.{_∧ᵇ_, within}
 use Rattle.meaning.specs.Types.{Form}
 use Rattle.meaning.specs.Terms.{str, file, truth, Head, lit, var, lambda, foreign, apply, future, ite, fix, nil, cons, isnil, zip, tuple, project, lproject, bind, arity, code, Tree, Forest, node, end, more, headOf, is, flat, size, raw, rowOf, treeOf}
 use Rattle.meaning.specs.Typing.{firstIs}
 use Rattle.meaning.specs.Steps.{Out, stay, go, become, child, values, isList, ready, anyNil, ifStep, isnilStep, projectStep, sendStep, lprojectStep, tie, fixStep, zipStep, applyStep, letStep, contract}
 use Rattle.meaning.specs.Types.{Param, params}
 use Rattle.meaning.specs.Terms.{tyOf, nOf}
-use Rattle.meaning.proofs.Bytes.RowTables.{rows-raw}
+use Rattle.meaning.specs.Terms.{kindNo, wordNo, rowFault, kindFields, none-used, a-number, withinOne}
+use Rattle.meaning.proofs.Trees.Tests.{within-if}
+use native.Mathlib.Omega.{arith}
+use Rattle.meaning.specs.Records.{version}
+use Rattle.meaning.proofs.Trees.EachRow.{Every}
+use Rattle.meaning.proofs.Bytes.RowTables.{rows-raw, legal, in-range}
 use Rattle.meaning.proofs.Trees.Parse.{length-flat, tree-of-flat}
 use Rattle.reduce.specs.Rule.{quiet, ruleOf, Redex}
 
@@ -30,7 +35,7 @@ quiet-cond : (b : Bool) (o p : Out) → quiet (cond b o p) ≡ cond b (quiet o) 
 quiet-cond true o p = refl
 quiet-cond false o p = refl
 
-send-quiet : {n : ℕ} (k u : ℕ) (c : Tree) (args : Forest n) → quiet (sendStep k u c args) ≡ none
+pub send-quiet : {n : ℕ} (k u : ℕ) (c : Tree) (args : Forest n) → quiet (sendStep k u c args) ≡ none
 unfolding quiet sendStep
 send-quiet k u c args = quiet-cond (values args) _ _ ∙ cond-same (values args) none
 
@@ -114,6 +119,21 @@ module _ (form : ℕ → Form) where
   pub rule-is : (k : ℕ) (h : Head) (u : ℕ) (f : Forest (arity h)) → calls h f ≡ false → contract form k h u f ≡ become (ruleOf form (node h u f))
   rule-is k h u f e = own-quiet k h u f e ∙ ap become (quiet-rule k h u f)
 
+one-range : (w : ℕ) → withinOne (a-number .words) w ≡ true → w ≤ 65535
+unfolding withinOne
+one-range w e = by-test (within 1 65535 w) refl e
+  where
+    by-test : (b : Bool) → within 1 65535 w ≡ b → cond b true false ≡ true → w ≤ 65535
+    by-test true p q = within-if 1 65535 w p .1
+    by-test false p q = let z : _≡_ {A = ℕ} 0 1 = cc in absurd (omega arith)
+
+word-fits : (count : ℕ) (r : List ℕ) → rowFault version count r ≡ none → kindNo r ≡ 19 → wordNo r ≤ 65535
+word-fits count r p k = one-range (wordNo r) (ap (λ (x : ℕ). withinOne (getD kindFields x none-used .words) (wordNo r)) (sym k) ∙ in-range version count r p .wordIn)
+
+first-named : (count : ℕ) (x : Tree) → Every (legal count) x → kindNo (getD (map raw (flat x)) 0 []) ≡ 19 → wordNo (getD (map raw (flat x)) 0 []) ≤ 65535
+unfolding flat Every
+first-named count (node h u f) (p, ps) k = word-fits count (raw (record { head = h; type = u })) p k
+
 -- the rows of a tree
 module _ (rows : List ℕ) (t : Tree) (e : rowTable rows ≡ map raw (flat t)) where
   rows-flat : termRows rows ≡ flat t
@@ -122,10 +142,15 @@ module _ (rows : List ℕ) (t : Tree) (e : rowTable rows ≡ map raw (flat t)) w
   pub tree-is : treeOf (termRows rows) ≡ t
   tree-is = ap treeOf rows-flat ∙ tree-of-flat t
 
-  pub redex-of : length rows ≤ 16384 → Redex rows
-  redex-of h =
+  -- a let's name is in range where its row is
+  let-named : (count : ℕ) → Every (legal count) t → kindNo (getD (rowTable rows) 0 []) ≡ 19 → wordNo (getD (rowTable rows) 0 []) ≤ 65535
+  let-named count d q = rw e (first-named count t d (rw e at q))
+
+  pub redex-of : (count : ℕ) → Every (legal count) t → length rows ≤ 16384 → Redex rows
+  redex-of count d h =
       record {
         few = h;
         exact = ap (map raw) rows-flat ∙ sym e;
         one = ap size tree-is ∙ sym (length-flat t) ∙ sym (ap length e ∙ length-map (flat t) raw);
+        name = let-named count d;
       }

@@ -1,1 +1,4 @@
 pub mod Rule
+pub mod Plan
+pub mod Given
+pub mod Halves

@@ -3,10 +3,10 @@ use Prim.Native.Nat.{ℕ, _≤_}
 use mathlib.Core.Path.{_≡_}
 use mathlib.Core.List.{List, [], map}
 use mathlib.Core.Option.{Option, none, some}
-use lib.ListN.{length}
+use lib.ListN.{length, getD}
 use Rattle.layout.specs.Rows.{rowTable, termRows}
 use Rattle.meaning.specs.Types.{Form}
-use Rattle.meaning.specs.Terms.{Tree, node, flat, size, raw, treeOf}
+use Rattle.meaning.specs.Terms.{Tree, node, flat, size, raw, kindNo, wordNo, treeOf}
 use Rattle.meaning.specs.Steps.{Out, stay, go, contract}
 use Rattle.reduce.specs.declared.Outcome.{Outcome}
 use Rattle.reduce.specs.declared.Outcome.the-variants.{Stays, Goes}
@@ -39,3 +39,5 @@ pub record Redex (rows : List ℕ) : Type 0 where
   pub few : length rows ≤ 16384
   pub exact : map raw (termRows rows) ≡ rowTable rows
   pub one : size (treeOf (termRows rows)) ≡ length (rowTable rows)
+  -- a let's name is in range
+  pub name : kindNo (getD (rowTable rows) 0 []) ≡ 19 → wordNo (getD (rowTable rows) 0 []) ≤ 65535

@@ -1,0 +1,21 @@
+-- What a rule puts for names, as code hands it on. Assumes nothing.
+use Prim.Native.Nat.{ℕ, _≤_}
+use mathlib.Core.Path.{_≡_}
+use mathlib.Core.List.{List, [], _∷_, _++_}
+use mathlib.Core.Option.{some}
+use lib.ListN.{length, take}
+use Rattle.meaning.specs.Types.{Form}
+use Rattle.meaning.specs.Terms.{typeNo}
+use Rattle.put.specs.Put.{Ready, putRows}
+use Rattle.reduce.specs.Plan.{rowNo, ruleRows}
+use Rattle.reduce.specs.declared.Puts.{Puts}
+
+-- "the function of the remaining arguments": its row
+abbrev pub tieRow : List (List ℕ) → List ℕ
+tieRow l = 6 ∷ 0 ∷ typeNo (rowNo l 0) ∷ 0 ∷ []
+
+-- the rule makes some new rows and then the body with the arguments put for the names
+pub record PutsRule (form : ℕ → Form) (l : List (List ℕ)) (front : List (List ℕ)) (p : Puts) : Type 0 where
+  pub few : p .count ≤ length (p .names)
+  pub ready : Ready l (p .body) (take (p .count) (p .names)) (p .bounds)
+  pub rows : ruleRows form l ≡ some (front ++ putRows form l (p .body) (take (p .count) (p .names)) (p .bounds))
