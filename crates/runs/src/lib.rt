@@ -1,0 +1,163 @@
+// A run: the steps of a sound record's term, made in the record's row space and the work buffer.
+use layout::Limits;
+use search::Stand;
+ghost use mathlib.Core.Path.{_≡_};
+ghost use Prim.Native.Nat.{ℕ, _+_, _*_, _-_, _≤_, _<_};
+ghost use mathlib.Core.Bool.{true, false};
+ghost use mathlib.Core.List.{List, [], _∷_, _++_};
+ghost use lib.ListN.{length, take, drop, replicate};
+ghost use Rattle.meaning.specs.Bytes.{number, write, termRow, recordBytes};
+ghost use Rattle.meaning.specs.Records.{rowCount as termCount};
+ghost use Rattle.layout.specs.Rows.{board};
+ghost use Rattle.search.specs.Kept.{rowCount};
+ghost use Rattle.meaning.specs.Types.{Form};
+ghost use Rattle.meaning.specs.Terms.{Tree};
+ghost use Rattle.search.specs.Search.{Room};
+ghost use Rattle.runs.specs.Sites.{Whole, Passing, Halts, GoesOn, InRecord, CallsOut, Calling};
+ghost use Rattle.runs.specs.Going.{space, Begins, PutBack, letterFrom};
+
+// What a rule that is tried tells: it stays; it goes, with the rows of its tree and of the tree that it makes; it sends, with the rows of its tree.
+pub enum Tried {
+    Stays,
+    Goes(usize, usize),
+    Sends(usize),
+}
+
+// The record's rows go to the end of the work buffer: all of them are to come.
+fn begin(kept: &[u8], work: &mut [u8], m: Limits) -> Stand
+    requires { ⌜ (length (now kept) ≡ recordBytes (board m)) × (termCount (now kept) ≤ m .rows) × (8 * m .rows ≤ length (now work)) ⌝ }
+    ensures { λ s. ⌜ Begins (board m) (now (kept .entry)) (now (work .entry)) (now (work .exit)) s ⌝ }
+{
+    let n = layout::wide(sound::head::row_count(kept));
+    let e = layout::term_rows(work);
+    let r = e - n;
+    let from = layout::rows_at(m);
+    layout::copy_to(work, 8 * r, kept, from, 8 * n);
+    Stand {
+        l: 0,
+        r: r,
+        d: 0,
+        here: false,
+    }
+}
+
+// The rows to come go behind the rows passed, and the record counts them.
+fn put_back(kept: &mut [u8], work: &[u8], m: Limits, s: Stand)
+    requires { ⌜ (length (now kept) ≡ recordBytes (board m)) × (s .r ≤ rowCount (now work)) × (s .l + (rowCount (now work) - s .r) ≤ m .rows) × (length (now work) ≤ 32768) ⌝ }
+    ensures { λ _. ⌜ PutBack (board m) (now (kept .entry)) (now (kept .exit)) (now (work .entry)) s ⌝ }
+{
+    let l = s.l;
+    let r = s.r;
+    let n = layout::term_rows(work) - r;
+    let at = layout::rows_at(m) + 8 * l;
+    layout::copy_to(kept, at, work, 8 * r, 8 * n);
+    keep::renew_rows(kept, m, l + n);
+}
+
+// The run ends here: the record holds the whole, the work buffer zeros.
+fn finish(kept: &mut [u8], work: &mut [u8], m: Limits, s: Stand)
+    requires { ⌜ (length (now kept) ≡ recordBytes (board m)) × (s .r ≤ rowCount (now work)) × (s .l + (rowCount (now work) - s .r) ≤ m .rows) × (length (now work) ≤ 32768) ⌝ }
+    ensures { λ _. ⌜ PutBack (board m) (now (kept .entry)) (now (kept .exit)) (now (work .entry)) s × (now (work .exit) ≡ replicate (length (now (work .entry))) 0) ⌝ }
+{
+    put_back(kept, work, m, s);
+    let end = work.len();
+    layout::clear(work, 0, end);
+}
+
+// A call's letter goes to the front of the work buffer: number, tool, row count and result type, then the rows of the arguments.
+fn write_letter(call: &[u8], work: &mut [u8], next: u32)
+    requires { ⌜ (16 ≤ length (now call)) × (length (now call) ≤ 16384) × (length (now call) ≤ length (now work)) ⌝ }
+    ensures { λ _. ⌜ now (work .exit) ≡ letterFrom next (now (call .entry)) ++ drop (length (now (call .entry)) - 4) (now (work .entry)) ⌝ }
+{
+    let n = call.len();
+    layout::put32_at(work, 0, next);
+    layout::put32_at(work, 4, layout::u32_at(call, 12));
+    layout::put16_at(work, 8, (n / 8 - 2) as u16);
+    layout::put16_at(work, 10, layout::u16_at(call, 2));
+    layout::copy_to(work, 12, call, 16, n - 16);
+}
+
+// The future of a call comes to stand before row r, in the place of the call.
+fn put_future(work: &mut [u8], r: usize, ty: u16, next: u32)
+    requires { ⌜ (0 < r) × (8 * r ≤ length (now work)) ⌝ }
+    ensures { λ _. ⌜ now (work .exit) ≡ take (8 * (r - 1)) (now (work .entry)) ++ (write termRow (9 ∷ 0 ∷ ty ∷ next ∷ []) ++ drop (8 * (r - 1) + 8) (now (work .entry))) ⌝ }
+{
+    let at = 8 * (r - 1);
+    work[at] = 9;
+    work[at + 1] = 0;
+    layout::put16_at(work, at + 2, ty);
+    layout::put32_at(work, at + 4, next);
+}
+
+// The search goes on in the record's row space until it stops.
+fn seek_in(kept: &mut [u8], work: &[u8], frames: &mut [u32], m: Limits, s: Stand) -> Stand
+    requires { ⌜ (length (now kept) ≡ recordBytes (board m)) × Room (space (board m) (now kept)) (now work) (now frames) s × ((form : ℕ → Form) × (k : ℕ) × (t : Tree) × Whole form k (space (board m) (now kept)) (now work) (now frames) s t) ⌝ }
+    ensures { λ e. ⌜ InRecord (board m) (now (kept .entry)) (now (kept .exit)) × Halts (space (board m) (now (kept .entry))) (space (board m) (now (kept .exit))) (now (work .entry)) (now (frames .entry)) (now (frames .exit)) s e ⌝ }
+{
+    let at = layout::rows_at(m);
+    search::seek(&mut kept[at..], work, frames, s)
+}
+
+// A tree whose own rule stays is passed.
+fn stay_here(kept: &mut [u8], work: &[u8], frames: &mut [u32], m: Limits, s: Stand) -> Stand
+    requires { ⌜ (length (now kept) ≡ recordBytes (board m)) × Room (space (board m) (now kept)) (now work) (now frames) s × (s .here ≡ true) × ((form : ℕ → Form) × (k : ℕ) × (t : Tree) × Passing form k (space (board m) (now kept)) (now work) (now frames) s t) ⌝ }
+    ensures { λ e. ⌜ InRecord (board m) (now (kept .entry)) (now (kept .exit)) × GoesOn (space (board m) (now (kept .entry))) (space (board m) (now (kept .exit))) (now (work .entry)) (now (frames .entry)) (now (frames .exit)) s e ⌝ }
+{
+    let at = layout::rows_at(m);
+    search::pass_by(&mut kept[at..], work, frames, s)
+}
+
+// A frame whose own rule stays is left.
+fn stay_end(kept: &[u8], frames: &mut [u32], m: Limits, s: Stand) -> Stand
+    requires { ⌜ (length (now kept) ≡ recordBytes (board m)) × ((form : ℕ → Form) × (k : ℕ) × (t : Tree) × (work : List ℕ) × Room (space (board m) (now kept)) work (now frames) s × (s .here ≡ false) × Passing form k (space (board m) (now kept)) work (now frames) s t) ⌝ }
+    ensures { λ e. ⌜ ((work : List ℕ) → Room (space (board m) (now (kept .entry))) work (now (frames .entry)) s → s .here ≡ false → GoesOn (space (board m) (now (kept .entry))) (space (board m) (now (kept .entry))) work (now (frames .entry)) (now (frames .exit)) s e) ⌝ }
+{
+    let at = layout::rows_at(m);
+    search::leave(&kept[at..], frames, s)
+}
+
+// A call that goes out: the rows of its tree, and its number.
+pub struct Outgoing {
+    pub old: usize,
+    pub next: u32,
+}
+
+// The result type of the call at the end of the rows passed.
+fn call_type(kept: &[u8], m: Limits, s: Stand, old: usize) -> u16
+    requires { ⌜ (length (now kept) ≡ recordBytes (board m)) × (old ≤ s .l) × (s .l ≤ m .rows) × (2 ≤ old) ⌝ }
+    ensures { λ t. ⌜ t ≡ number 2 (drop 2 (take (8 * old) (drop (8 * (s .l - old)) (space (board m) (now (kept .entry)))))) ⌝ }
+{
+    let l = s.l;
+    let at = layout::rows_at(m);
+    let p = at + 8 * (l - old);
+    let q = p + 8 * old;
+    layout::u16_at(&kept[p..q], 2)
+}
+
+// The call at the end of the rows passed goes out: its future comes to stand in its place, its letter at the front of the work buffer.
+fn call_out(kept: &[u8], work: &mut [u8], frames: &[u32], m: Limits, s: Stand, o: Outgoing) -> Stand
+    requires { ⌜ (length (now kept) ≡ recordBytes (board m)) × Room (space (board m) (now kept)) (now work) (now frames) s × (s .here ≡ false) × (m .rows ≤ 2048) × (s .l + (rowCount (now work) - s .r) ≤ m .rows) × (s .l + 2 ≤ s .r) × Calling (space (board m) (now kept)) (now work) (now frames) s (o .old) (o .next) × (o .next < 4294967296) ⌝ }
+    ensures { λ e. ⌜ CallsOut (space (board m) (now (kept .entry))) (now (work .entry)) (now (work .exit)) (now (frames .entry)) s e (o .old) (o .next) ⌝ }
+{
+    let l = s.l;
+    let r = s.r;
+    let old = o.old;
+    let next = o.next;
+    let at = layout::rows_at(m);
+    put_future(work, r, call_type(kept, m, s, old), next);
+    let e = search::back_up(
+        &kept[at..],
+        work,
+        frames,
+        Stand {
+            l: l - old,
+            r: r - 1,
+            d: s.d - 1,
+            here: false,
+        },
+    );
+    let p = at + 8 * (l - old);
+    let q = p + 8 * old;
+    write_letter(&kept[p..q], work, next);
+    e
+}
