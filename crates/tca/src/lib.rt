@@ -5,6 +5,7 @@ use meaning::Refusal;
 use meaning::Shape;
 
 mod answers;
+pub mod figures;
 mod fresh;
 mod head;
 pub mod reply;
