@@ -10,7 +10,7 @@ pub fn form_of(types: &[u8], t: u16) -> u8
     ensures { λ r. ⌜ r ≡ formNo (says (now (types .entry)) t) ⌝ }
 {
     let at = t as usize;
-    if layout::TYPE_ROW * at + layout::TYPE_ROW <= types.len() {
+    if at < layout::type_rows(types) {
         return layout::form_no(types, at);
     }
     0
@@ -21,7 +21,7 @@ pub fn result_of(types: &[u8], t: u16) -> u16
     ensures { λ r. ⌜ r ≡ result (says (now (types .entry)) t) ⌝ }
 {
     let at = t as usize;
-    if layout::TYPE_ROW * at + layout::TYPE_ROW <= types.len() {
+    if at < layout::type_rows(types) {
         return layout::result_no(types, at);
     }
     0
@@ -32,7 +32,7 @@ pub fn parts_of(types: &[u8], t: u16) -> usize
     ensures { λ r. ⌜ (r ≡ length (parts (says (now (types .entry)) t))) × (r ≤ 8) ⌝ }
 {
     let at = t as usize;
-    if layout::TYPE_ROW * at + layout::TYPE_ROW <= types.len() {
+    if at < layout::type_rows(types) {
         return few(layout::parts_no(types, at));
     }
     0

@@ -14,23 +14,23 @@ pub parts-of-spec : {M : Type 1} → statement M
 parts-of-spec =
     tie.close
     (tie.spec
-    (λ c. search needs)
-    (λ c. search needs)
     (λ c κs. search needs)
+    -- row-requires
+    (λ c κs. omega (arith, c .before .type-rows .ensures, c .if1 .taken))
     (λ c κs. search needs)
     -- returns
     (λ c.
     let few = c .few in
     let parts-no = c .before .parts-no in
-    let args = c .before .before .before .before .args in
+    let args = c .before .before .before .before .before .args in
     let if1 = c .before .before .if1 in
     let e = few .ensures ∙ ap (λ (n : ℕ). min n 8) (parts-no .ensures) ∙ sym (parts-length _) ∙ sym (ap (λ (r : List ℕ). length (parts r)) (says-in
-    (args .types .now) (args .t) (if1 .taken))) in (e, omega (arith, few .ensures)))
+    (args .types .now) (args .t) (omega (arith, c .before .before .before .type-rows .ensures, if1 .taken)))) in (e, omega (arith, few .ensures)))
     -- returns-2
     (λ c.
-    let args = c .before .before .args in
+    let args = c .before .before .before .args in
     let if1 = c .if1 in (
-      sym (ap (λ (r : List ℕ). length (parts r)) (says-out (args .types .now) (args .t) (omega (arith, if1 .left))) ∙ no-parts),
+      sym (ap (λ (r : List ℕ). length (parts r)) (says-out (args .types .now) (args .t) (omega (arith, c .before .type-rows .ensures, if1 .left))) ∙ no-parts),
       omega
           arith,
     )))

@@ -13,17 +13,17 @@ pub result-of-spec : {M : Type 1} → statement M
 result-of-spec =
     tie.close
     (tie.spec
-    (λ c. search needs)
-    (λ c. search needs)
     (λ c κs. search needs)
+    -- row-requires
+    (λ c κs. omega (arith, c .before .type-rows .ensures, c .if1 .taken))
     -- returns
     (λ c.
     let result-no = c .result-no in
-    let args = c .before .before .before .args in
+    let args = c .before .before .before .before .args in
     let if1 = c .before .if1 in
-    result-no .ensures ∙ sym (ap (λ (r : List ℕ). result r) (says-in (args .types .now) (args .t) (if1 .taken))))
+    result-no .ensures ∙ sym (ap (λ (r : List ℕ). result r) (says-in (args .types .now) (args .t) (omega (arith, c .before .before .type-rows .ensures, if1 .taken)))))
     -- returns-2
     (λ c.
-    let args = c .before .before .args in
+    let args = c .before .before .before .args in
     let if1 = c .if1 in
-    sym (ap (λ (r : List ℕ). result r) (says-out (args .types .now) (args .t) (omega (arith, if1 .left))))))
+    sym (ap (λ (r : List ℕ). result r) (says-out (args .types .now) (args .t) (omega (arith, c .before .type-rows .ensures, if1 .left))))))
