@@ -26,7 +26,9 @@ first-due-spec =
     μ-loop
     (λ c κs. search needs)
     -- loop-holds
-    (λ c. (omega arith, stand-first (c .before .before .args .number) (rowTable (c .before .before .args .rows .now))))
+    (λ c.
+    let a = c .before .before .args in
+    (omega arith, stand-first (a .number) (rowTable (a .rows .now))))
     -- row-at-requires
     (λ c κs. omega arith)
     (λ c κs. search needs)
@@ -37,6 +39,12 @@ first-due-spec =
     -- loop-less
     (λ c. omega arith)
     -- loop-again
-    (λ c. let z = row-table-length (c .before .before .before .before .before .before .before .args .rows .now) in (omega arith, λ vs. stand-more (c .before .before .before .before .before .before .before .args .number) vs (rowTable (c .before .before .before .before .before .before .before .args .rows .now)) (c .before .before .before .before .loop .i) [] _ (omega arith) (row-table-at (c .before .before .before .before .before .before .before .args .rows .now) (c .before .before .before .before .loop .i) [] (omega arith) ∙ sym (c .before .before .row-at .ensures)) (sym (c .before .is-due .ensures) ∙ c .if1 .left) (c .before .before .before .before .loop .inv .1 vs)))
+    (λ c.
+    let a = c .before .before .before .before .before .before .before .args in
+    let l = c .before .before .before .before .loop in
+    let z = row-table-length (a .rows .now) in (omega arith, λ vs. stand-more (a .number) vs (rowTable (a .rows .now)) (l .i) [] _ (omega arith) (row-table-at (a .rows .now) (l .i) [] (omega arith) ∙ sym (c .before .before .row-at .ensures)) (sym (c .before .is-due .ensures) ∙ c .if1 .left) (l .inv .1 vs)))
     -- returns-2
-    (λ c. let z = row-table-length (c .before .before .before .before .args .rows .now) in let e : (c .before .loop .i) ≡ c .before .before .term-rows .result = omega arith in record { within = omega arith; same = rw e at (c .before .loop .inv .1) }))
+    (λ c.
+    let l = c .before .loop in
+    let z = row-table-length (c .before .before .before .before .args .rows .now) in
+    let e : (l .i) ≡ c .before .before .term-rows .result = omega arith in record { within = omega arith; same = rw e at (l .inv .1) }))

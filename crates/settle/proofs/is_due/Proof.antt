@@ -10,6 +10,10 @@ is-due-spec =
     tie.close
     (tie.spec
     -- returns
-    (λ c. sym (other-kind (c .before .before .args .number) (numbers (c .before .before .args .r)) (c .if1 .taken)))
+    (λ c.
+    let a = c .before .before .args in
+    sym (other-kind (a .number) (numbers (a .r)) (c .if1 .taken)))
     -- returns-2
-    (λ c. sym (a-future (c .before .before .before .args .number) (numbers (c .before .before .before .args .r)) (c .before .if1 .left))))
+    (λ c.
+    let a = c .before .before .before .args in
+    sym (a-future (a .number) (numbers (a .r)) (c .before .if1 .left))))

@@ -27,7 +27,9 @@ rows-after-spec =
     (λ c κs. search needs)
     (λ c κs. search needs)
     -- loop-holds
-    (λ c. (omega arith, omega arith, sym (ap length (no-rows (c .before .before .before .before .args .number) (rowTable (c .before .before .before .before .args .value .now)) (rowTable (c .before .before .before .before .args .rows .now))))))
+    (λ c.
+    let a = c .before .before .before .before .args in
+    (omega arith, omega arith, sym (ap length (no-rows (a .number) (rowTable (a .value .now)) (rowTable (a .rows .now))))))
     -- row-at-requires
     (λ c κs. omega arith)
     (λ c κs. search needs)
@@ -38,7 +40,11 @@ rows-after-spec =
     -- loop-less
     (λ c. omega arith)
     -- loop-again
-    (λ c. let z = row-table-length (c .before .before .before .before .before .before .before .before .before .args .rows .now) in let y = row-table-length (c .before .before .before .before .before .before .before .before .before .args .value .now) in (omega arith, omega arith, count-due (c .before .before .before .before .before .before .before .before .before .args .number) (rowTable (c .before .before .before .before .before .before .before .before .before .args .value .now)) (rowTable (c .before .before .before .before .before .before .before .before .before .args .rows .now)) (c .before .before .before .before .loop .i) [] _ (omega arith) (row-table-at (c .before .before .before .before .before .before .before .before .before .args .rows .now) (c .before .before .before .before .loop .i) [] (omega arith) ∙ sym (c .before .before .row-at .ensures)) _ _ (sym (c .before .is-due .ensures) ∙ c .if1 .taken) (omega arith) (c .before .before .before .before .loop .inv .2)))
+    (λ c.
+    let a = c .before .before .before .before .before .before .before .before .before .args in
+    let l = c .before .before .before .before .loop in
+    let z = row-table-length (a .rows .now) in
+    let y = row-table-length (a .value .now) in (omega arith, omega arith, count-due (a .number) (rowTable (a .value .now)) (rowTable (a .rows .now)) (l .i) [] _ (omega arith) (row-table-at (a .rows .now) (l .i) [] (omega arith) ∙ sym (c .before .before .row-at .ensures)) _ _ (sym (c .before .is-due .ensures) ∙ c .if1 .taken) (omega arith) (l .inv .2)))
     -- add-total-2
     (λ c. omega arith)
     -- add-i-2
@@ -46,6 +52,14 @@ rows-after-spec =
     -- loop-less-2
     (λ c. omega arith)
     -- loop-again-2
-    (λ c. let z = row-table-length (c .before .before .before .before .before .before .before .before .before .args .rows .now) in let y = row-table-length (c .before .before .before .before .before .before .before .before .before .args .value .now) in (omega arith, omega arith, count-other (c .before .before .before .before .before .before .before .before .before .args .number) (rowTable (c .before .before .before .before .before .before .before .before .before .args .value .now)) (rowTable (c .before .before .before .before .before .before .before .before .before .args .rows .now)) (c .before .before .before .before .loop .i) [] _ (omega arith) (row-table-at (c .before .before .before .before .before .before .before .before .before .args .rows .now) (c .before .before .before .before .loop .i) [] (omega arith) ∙ sym (c .before .before .row-at .ensures)) _ (sym (c .before .is-due .ensures) ∙ c .if1 .left) (c .before .before .before .before .loop .inv .2)))
+    (λ c.
+    let a = c .before .before .before .before .before .before .before .before .before .args in
+    let l = c .before .before .before .before .loop in
+    let z = row-table-length (a .rows .now) in
+    let y = row-table-length (a .value .now) in (omega arith, omega arith, count-other (a .number) (rowTable (a .value .now)) (rowTable (a .rows .now)) (l .i) [] _ (omega arith) (row-table-at (a .rows .now) (l .i) [] (omega arith) ∙ sym (c .before .before .row-at .ensures)) _ (sym (c .before .is-due .ensures) ∙ c .if1 .left) (l .inv .2)))
     -- returns
-    (λ c. let z = row-table-length (c .before .before .before .before .before .before .args .rows .now) in let y = row-table-length (c .before .before .before .before .before .before .args .value .now) in c .before .loop .inv .2 ∙ ap length (all-rows (c .before .before .before .before .before .before .args .number) (rowTable (c .before .before .before .before .before .before .args .value .now)) (rowTable (c .before .before .before .before .before .before .args .rows .now)) (c .before .loop .i) (omega arith))))
+    (λ c.
+    let a = c .before .before .before .before .before .before .args in
+    let l = c .before .loop in
+    let z = row-table-length (a .rows .now) in
+    let y = row-table-length (a .value .now) in l .inv .2 ∙ ap length (all-rows (a .number) (rowTable (a .value .now)) (rowTable (a .rows .now)) (l .i) (omega arith))))

@@ -28,33 +28,80 @@ settle-rows-spec =
     μ-loop
     (λ c κs. search needs)
     -- loop-holds
-    (λ c. (omega arith, omega (arith, ap length (no-rows (c .before .before .before .before .args .number) (rowTable (c .before .before .before .before .args .value .now)) (rowTable (c .before .before .before .before .args .rows .now)))), refl, unfold writes in ap (λ (x : List (List ℕ)). writes termRow x ++ (c .before .before .before .before .args .work .now)) (sym (no-rows (c .before .before .before .before .args .number) (rowTable (c .before .before .before .before .args .value .now)) (rowTable (c .before .before .before .before .args .rows .now))))))
+    (λ c.
+    let a = c .before .before .before .before .args in
+    (omega arith, omega (arith, ap length (no-rows (a .number) (rowTable (a .value .now)) (rowTable (a .rows .now)))), refl, unfold writes in ap (λ (x : List (List ℕ)). writes termRow x ++ (a .work .now)) (sym (no-rows (a .number) (rowTable (a .value .now)) (rowTable (a .rows .now))))))
     -- row-at-requires
     (λ c κs. omega arith)
     (λ c κs. search needs)
     -- copy-to-requires
-    (λ c κs. let z = row-table-length (c .before .before .before .before .before .before .before .before .before .before .args .rows .now) in let y = row-table-length (c .before .before .before .before .before .before .before .before .before .before .args .value .now) in let d = count-due (c .before .before .before .before .before .before .before .before .before .before .args .number) (rowTable (c .before .before .before .before .before .before .before .before .before .before .args .value .now)) (rowTable (c .before .before .before .before .before .before .before .before .before .before .args .rows .now)) (c .before .before .before .before .before .loop .i) [] _ (omega arith) (row-table-at (c .before .before .before .before .before .before .before .before .before .before .args .rows .now) (c .before .before .before .before .before .loop .i) [] (omega arith) ∙ sym (c .before .before .before .row-at .ensures)) _ _ (sym (c .before .before .is-due .ensures) ∙ c .before .if1 .taken) refl refl in let p = prefix (c .before .before .before .before .before .before .before .before .before .before .args .number) (rowTable (c .before .before .before .before .before .before .before .before .before .before .args .value .now)) (rowTable (c .before .before .before .before .before .before .before .before .before .before .args .rows .now)) ((c .before .before .before .before .before .loop .i) + 1) in (omega arith, omega arith))
+    (λ c κs.
+    let a = c .before .before .before .before .before .before .before .before .before .before .args in
+    let l = c .before .before .before .before .before .loop in
+    let z = row-table-length (a .rows .now) in
+    let y = row-table-length (a .value .now) in
+    let d = count-due (a .number) (rowTable (a .value .now)) (rowTable (a .rows .now)) (l .i) [] _ (omega arith) (row-table-at (a .rows .now) (l .i) [] (omega arith) ∙ sym (c .before .before .before .row-at .ensures)) _ _ (sym (c .before .before .is-due .ensures) ∙ c .before .if1 .taken) refl refl in
+    let p = prefix (a .number) (rowTable (a .value .now)) (rowTable (a .rows .now)) ((l .i) + 1) in (omega arith, omega arith))
     -- add-out
-    (λ c. let z = row-table-length (c .before .before .before .before .before .before .before .before .before .before .before .before .before .args .rows .now) in let y = row-table-length (c .before .before .before .before .before .before .before .before .before .before .before .before .before .args .value .now) in let d = count-due (c .before .before .before .before .before .before .before .before .before .before .before .before .before .args .number) (rowTable (c .before .before .before .before .before .before .before .before .before .before .before .before .before .args .value .now)) (rowTable (c .before .before .before .before .before .before .before .before .before .before .before .before .before .args .rows .now)) (c .before .before .before .before .before .before .before .before .loop .i) [] _ (omega arith) (row-table-at (c .before .before .before .before .before .before .before .before .before .before .before .before .before .args .rows .now) (c .before .before .before .before .before .before .before .before .loop .i) [] (omega arith) ∙ sym (c .before .before .before .before .before .before .row-at .ensures)) _ _ (sym (c .before .before .before .before .before .is-due .ensures) ∙ c .before .before .before .before .if1 .taken) refl refl in let p = prefix (c .before .before .before .before .before .before .before .before .before .before .before .before .before .args .number) (rowTable (c .before .before .before .before .before .before .before .before .before .before .before .before .before .args .value .now)) (rowTable (c .before .before .before .before .before .before .before .before .before .before .before .before .before .args .rows .now)) ((c .before .before .before .before .before .before .before .before .loop .i) + 1) in omega arith)
+    (λ c.
+    let a = c .before .before .before .before .before .before .before .before .before .before .before .before .before .args in
+    let l = c .before .before .before .before .before .before .before .before .loop in
+    let z = row-table-length (a .rows .now) in
+    let y = row-table-length (a .value .now) in
+    let d = count-due (a .number) (rowTable (a .value .now)) (rowTable (a .rows .now)) (l .i) [] _ (omega arith) (row-table-at (a .rows .now) (l .i) [] (omega arith) ∙ sym (c .before .before .before .before .before .before .row-at .ensures)) _ _ (sym (c .before .before .before .before .before .is-due .ensures) ∙ c .before .before .before .before .if1 .taken) refl refl in
+    let p = prefix (a .number) (rowTable (a .value .now)) (rowTable (a .rows .now)) ((l .i) + 1) in omega arith)
     -- add-i
     (λ c. omega arith)
     -- loop-less
     (λ c. omega arith)
     -- loop-again
-    (λ c. let z = row-table-length (c .before .before .before .before .before .before .before .before .before .before .before .before .before .args .rows .now) in let y = row-table-length (c .before .before .before .before .before .before .before .before .before .before .before .before .before .args .value .now) in let d = count-due (c .before .before .before .before .before .before .before .before .before .before .before .before .before .args .number) (rowTable (c .before .before .before .before .before .before .before .before .before .before .before .before .before .args .value .now)) (rowTable (c .before .before .before .before .before .before .before .before .before .before .before .before .before .args .rows .now)) (c .before .before .before .before .before .before .before .before .loop .i) [] _ (omega arith) (row-table-at (c .before .before .before .before .before .before .before .before .before .before .before .before .before .args .rows .now) (c .before .before .before .before .before .before .before .before .loop .i) [] (omega arith) ∙ sym (c .before .before .before .before .before .before .row-at .ensures)) _ _ (sym (c .before .before .before .before .before .is-due .ensures) ∙ c .before .before .before .before .if1 .taken) refl refl in (omega arith, omega arith, c .before .before .copy-to .kept .0 ∙ c .before .before .before .before .before .before .before .before .loop .inv .2, push-due (c .before .before .before .before .before .before .before .before .before .before .before .before .before .args .number) (rowTable (c .before .before .before .before .before .before .before .before .before .before .before .before .before .args .value .now)) (rowTable (c .before .before .before .before .before .before .before .before .before .before .before .before .before .args .rows .now)) (c .before .before .before .before .before .before .before .before .loop .i) [] _ (omega arith) (row-table-at (c .before .before .before .before .before .before .before .before .before .before .before .before .before .args .rows .now) (c .before .before .before .before .before .before .before .before .loop .i) [] (omega arith) ∙ sym (c .before .before .before .before .before .before .row-at .ensures)) (c .before .before .before .before .before .before .before .before .before .before .before .before .before .args .work .now) _ _ _ (c .before .before .before .before .before .before .before .before .loop .inv .1) (c .before .before .before .before .before .before .before .before .loop .inv .3) (c .before .before .before .before .before .before .before .before .before .before .before .before .before .args .value .now) _ (sym (c .before .before .before .before .before .is-due .ensures) ∙ c .before .before .before .before .if1 .taken) (table-bytes (c .before .before .before .before .before .before .before .before .before .before .before .before .before .args .value .now) (λ j. omega (arith, c .before .before .before .before .before .before .before .before .before .before .shared-slice-known2 .given j)) (c .before .before .before .before .before .before .before .before .before .before .before .before .before .pre .1)) refl (c .before .before .copy-to .ensures)))
+    (λ c.
+    let a = c .before .before .before .before .before .before .before .before .before .before .before .before .before .args in
+    let l = c .before .before .before .before .before .before .before .before .loop in
+    let row-at = c .before .before .before .before .before .before .row-at in
+    let is-due = c .before .before .before .before .before .is-due in
+    let copy-to = c .before .before .copy-to in
+    let z = row-table-length (a .rows .now) in
+    let y = row-table-length (a .value .now) in
+    let d = count-due (a .number) (rowTable (a .value .now)) (rowTable (a .rows .now)) (l .i) [] _ (omega arith) (row-table-at (a .rows .now) (l .i) [] (omega arith) ∙ sym (row-at .ensures)) _ _ (sym (is-due .ensures) ∙ c .before .before .before .before .if1 .taken) refl refl in (omega arith, omega arith, copy-to .kept .0 ∙ l .inv .2, push-due (a .number) (rowTable (a .value .now)) (rowTable (a .rows .now)) (l .i) [] _ (omega arith) (row-table-at (a .rows .now) (l .i) [] (omega arith) ∙ sym (row-at .ensures)) (a .work .now) _ _ _ (l .inv .1) (l .inv .3) (a .value .now) _ (sym (is-due .ensures) ∙ c .before .before .before .before .if1 .taken) (table-bytes (a .value .now) (λ j. omega (arith, c .before .before .before .before .before .before .before .before .before .before .shared-slice-known2 .given j)) (c .before .before .before .before .before .before .before .before .before .before .before .before .before .pre .1)) refl (copy-to .ensures)))
     -- mul-copy-to
     (λ c. omega arith)
     -- copy-to-requires-2
-    (λ c κs. let z = row-table-length (c .before .before .before .before .before .before .before .before .before .before .args .rows .now) in let y = row-table-length (c .before .before .before .before .before .before .before .before .before .before .args .value .now) in let d = count-other (c .before .before .before .before .before .before .before .before .before .before .args .number) (rowTable (c .before .before .before .before .before .before .before .before .before .before .args .value .now)) (rowTable (c .before .before .before .before .before .before .before .before .before .before .args .rows .now)) (c .before .before .before .before .before .loop .i) [] _ (omega arith) (row-table-at (c .before .before .before .before .before .before .before .before .before .before .args .rows .now) (c .before .before .before .before .before .loop .i) [] (omega arith) ∙ sym (c .before .before .before .row-at .ensures)) _ (sym (c .before .before .is-due .ensures) ∙ c .before .if1 .left) refl in let p = prefix (c .before .before .before .before .before .before .before .before .before .before .args .number) (rowTable (c .before .before .before .before .before .before .before .before .before .before .args .value .now)) (rowTable (c .before .before .before .before .before .before .before .before .before .before .args .rows .now)) ((c .before .before .before .before .before .loop .i) + 1) in (omega arith, omega arith))
+    (λ c κs.
+    let a = c .before .before .before .before .before .before .before .before .before .before .args in
+    let l = c .before .before .before .before .before .loop in
+    let z = row-table-length (a .rows .now) in
+    let y = row-table-length (a .value .now) in
+    let d = count-other (a .number) (rowTable (a .value .now)) (rowTable (a .rows .now)) (l .i) [] _ (omega arith) (row-table-at (a .rows .now) (l .i) [] (omega arith) ∙ sym (c .before .before .before .row-at .ensures)) _ (sym (c .before .before .is-due .ensures) ∙ c .before .if1 .left) refl in
+    let p = prefix (a .number) (rowTable (a .value .now)) (rowTable (a .rows .now)) ((l .i) + 1) in (omega arith, omega arith))
     -- add-out-2
-    (λ c. let z = row-table-length (c .before .before .before .before .before .before .before .before .before .before .before .before .before .args .rows .now) in let y = row-table-length (c .before .before .before .before .before .before .before .before .before .before .before .before .before .args .value .now) in let d = count-other (c .before .before .before .before .before .before .before .before .before .before .before .before .before .args .number) (rowTable (c .before .before .before .before .before .before .before .before .before .before .before .before .before .args .value .now)) (rowTable (c .before .before .before .before .before .before .before .before .before .before .before .before .before .args .rows .now)) (c .before .before .before .before .before .before .before .before .loop .i) [] _ (omega arith) (row-table-at (c .before .before .before .before .before .before .before .before .before .before .before .before .before .args .rows .now) (c .before .before .before .before .before .before .before .before .loop .i) [] (omega arith) ∙ sym (c .before .before .before .before .before .before .row-at .ensures)) _ (sym (c .before .before .before .before .before .is-due .ensures) ∙ c .before .before .before .before .if1 .left) refl in let p = prefix (c .before .before .before .before .before .before .before .before .before .before .before .before .before .args .number) (rowTable (c .before .before .before .before .before .before .before .before .before .before .before .before .before .args .value .now)) (rowTable (c .before .before .before .before .before .before .before .before .before .before .before .before .before .args .rows .now)) ((c .before .before .before .before .before .before .before .before .loop .i) + 1) in omega arith)
+    (λ c.
+    let a = c .before .before .before .before .before .before .before .before .before .before .before .before .before .args in
+    let l = c .before .before .before .before .before .before .before .before .loop in
+    let z = row-table-length (a .rows .now) in
+    let y = row-table-length (a .value .now) in
+    let d = count-other (a .number) (rowTable (a .value .now)) (rowTable (a .rows .now)) (l .i) [] _ (omega arith) (row-table-at (a .rows .now) (l .i) [] (omega arith) ∙ sym (c .before .before .before .before .before .before .row-at .ensures)) _ (sym (c .before .before .before .before .before .is-due .ensures) ∙ c .before .before .before .before .if1 .left) refl in
+    let p = prefix (a .number) (rowTable (a .value .now)) (rowTable (a .rows .now)) ((l .i) + 1) in omega arith)
     -- add-i-2
     (λ c. omega arith)
     -- loop-less-2
     (λ c. omega arith)
     -- loop-again-2
-    (λ c. let z = row-table-length (c .before .before .before .before .before .before .before .before .before .before .before .before .before .args .rows .now) in let y = row-table-length (c .before .before .before .before .before .before .before .before .before .before .before .before .before .args .value .now) in let d = count-other (c .before .before .before .before .before .before .before .before .before .before .before .before .before .args .number) (rowTable (c .before .before .before .before .before .before .before .before .before .before .before .before .before .args .value .now)) (rowTable (c .before .before .before .before .before .before .before .before .before .before .before .before .before .args .rows .now)) (c .before .before .before .before .before .before .before .before .loop .i) [] _ (omega arith) (row-table-at (c .before .before .before .before .before .before .before .before .before .before .before .before .before .args .rows .now) (c .before .before .before .before .before .before .before .before .loop .i) [] (omega arith) ∙ sym (c .before .before .before .before .before .before .row-at .ensures)) _ (sym (c .before .before .before .before .before .is-due .ensures) ∙ c .before .before .before .before .if1 .left) refl in (omega arith, omega arith, c .before .before .copy-to2 .kept .0 ∙ c .before .before .before .before .before .before .before .before .loop .inv .2, push-other (c .before .before .before .before .before .before .before .before .before .before .before .before .before .args .number) (rowTable (c .before .before .before .before .before .before .before .before .before .before .before .before .before .args .value .now)) (rowTable (c .before .before .before .before .before .before .before .before .before .before .before .before .before .args .rows .now)) (c .before .before .before .before .before .before .before .before .loop .i) [] _ (omega arith) (row-table-at (c .before .before .before .before .before .before .before .before .before .before .before .before .before .args .rows .now) (c .before .before .before .before .before .before .before .before .loop .i) [] (omega arith) ∙ sym (c .before .before .before .before .before .before .row-at .ensures)) (c .before .before .before .before .before .before .before .before .before .before .before .before .before .args .work .now) _ _ _ (c .before .before .before .before .before .before .before .before .loop .inv .1) (c .before .before .before .before .before .before .before .before .loop .inv .3) (c .before .before .before .before .before .before .before .before .before .before .before .before .before .args .rows .now) (λ j. omega (arith, c .before .before .before .before .before .before .before .before .before .before .before .shared-slice-known .given j)) (omega arith) (c .before .before .before .before .before .before .row-at .ensures) (sym (c .before .before .before .before .before .is-due .ensures) ∙ c .before .before .before .before .if1 .left) (c .before .before .copy-to2 .ensures)))
+    (λ c.
+    let a = c .before .before .before .before .before .before .before .before .before .before .before .before .before .args in
+    let l = c .before .before .before .before .before .before .before .before .loop in
+    let row-at = c .before .before .before .before .before .before .row-at in
+    let is-due = c .before .before .before .before .before .is-due in
+    let copy-to2 = c .before .before .copy-to2 in
+    let z = row-table-length (a .rows .now) in
+    let y = row-table-length (a .value .now) in
+    let d = count-other (a .number) (rowTable (a .value .now)) (rowTable (a .rows .now)) (l .i) [] _ (omega arith) (row-table-at (a .rows .now) (l .i) [] (omega arith) ∙ sym (row-at .ensures)) _ (sym (is-due .ensures) ∙ c .before .before .before .before .if1 .left) refl in (omega arith, omega arith, copy-to2 .kept .0 ∙ l .inv .2, push-other (a .number) (rowTable (a .value .now)) (rowTable (a .rows .now)) (l .i) [] _ (omega arith) (row-table-at (a .rows .now) (l .i) [] (omega arith) ∙ sym (row-at .ensures)) (a .work .now) _ _ _ (l .inv .1) (l .inv .3) (a .rows .now) (λ j. omega (arith, c .before .before .before .before .before .before .before .before .before .before .before .shared-slice-known .given j)) (omega arith) (row-at .ensures) (sym (is-due .ensures) ∙ c .before .before .before .before .if1 .left) (copy-to2 .ensures)))
     -- same-length
     (λ c. c .before .loop .inv .2)
     -- returns
-    (λ c. let z = row-table-length (c .before .before .before .before .before .before .args .rows .now) in let y = row-table-length (c .before .before .before .before .before .before .args .value .now) in let e = all-rows (c .before .before .before .before .before .before .args .number) (rowTable (c .before .before .before .before .before .before .args .value .now)) (rowTable (c .before .before .before .before .before .before .args .rows .now)) (c .before .loop .i) (omega arith) in (c .before .loop .inv .1 ∙ ap (λ (x : List (List ℕ)). 8 * length x) e, c .before .loop .inv .3 ∙ ap (λ (x : List (List ℕ)). writes termRow x ++ drop (c .before .loop .out) (c .before .before .before .before .before .before .args .work .now)) e)))
+    (λ c.
+    let a = c .before .before .before .before .before .before .args in
+    let l = c .before .loop in
+    let z = row-table-length (a .rows .now) in
+    let y = row-table-length (a .value .now) in
+    let e = all-rows (a .number) (rowTable (a .value .now)) (rowTable (a .rows .now)) (l .i) (omega arith) in (l .inv .1 ∙ ap (λ (x : List (List ℕ)). 8 * length x) e, l .inv .3 ∙ ap (λ (x : List (List ℕ)). writes termRow x ++ drop (l .out) (a .work .now)) e)))

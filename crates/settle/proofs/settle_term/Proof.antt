@@ -19,33 +19,108 @@ settle-term-spec =
     -- slice-reshare-prefix-first-due
     (λ c. let p = c .before .before .before .pre in omega arith)
     -- slice-aggregate-first-due
-    (λ c. let p = c .before .before .before .before .pre in omega (arith, length-take-le (c .before .before .before .before .args .used) (c .before .before .before .before .args .space .now) (p .used-within)))
+    (λ c.
+    let a = c .before .before .before .before .args in
+    let p = c .before .before .before .before .pre in omega (arith, length-take-le (a .used) (a .space .now) (p .used-within)))
     (λ c κs. search needs)
     -- mul-from
-    (λ c. let fw = first-within (c .before .before .before .before .before .args .space .now) (c .before .before .before .before .before .args .used) (c .first-due .result) (c .before .before .before .before .before .args .number) (rowTable (c .before .before .before .before .before .args .value .now)) (c .before .before .before .before .before .pre .used-within) (c .before .before .before .before .before .pre .used-rows) (c .first-due .ensures) in let p = c .before .before .before .before .before .pre in omega arith)
+    (λ c.
+    let a = c .before .before .before .before .before .args in
+    let asked = c .before .before .before .before .before .pre in
+    let fw = first-within (a .space .now) (a .used) (c .first-due .result) (a .number) (rowTable (a .value .now)) (asked .used-within) (asked .used-rows) (c .first-due .ensures) in
+    let p = asked in omega arith)
     -- sub-settle-rows
-    (λ c. let fw = first-within (c .before .before .before .before .before .before .args .space .now) (c .before .before .before .before .before .before .args .used) (c .before .first-due .result) (c .before .before .before .before .before .before .args .number) (rowTable (c .before .before .before .before .before .before .args .value .now)) (c .before .before .before .before .before .before .pre .used-within) (c .before .before .before .before .before .before .pre .used-rows) (c .before .first-due .ensures) in let p = c .before .before .before .before .before .before .pre in omega arith)
+    (λ c.
+    let a = c .before .before .before .before .before .before .args in
+    let asked = c .before .before .before .before .before .before .pre in
+    let first-due = c .before .first-due in
+    let fw = first-within (a .space .now) (a .used) (first-due .result) (a .number) (rowTable (a .value .now)) (asked .used-within) (asked .used-rows) (first-due .ensures) in
+    let p = asked in omega arith)
     -- part-settle-rows-start
-    (λ c. let fw = first-within (c .before .before .before .before .before .before .before .args .space .now) (c .before .before .before .before .before .before .before .args .used) (c .before .before .first-due .result) (c .before .before .before .before .before .before .before .args .number) (rowTable (c .before .before .before .before .before .before .before .args .value .now)) (c .before .before .before .before .before .before .before .pre .used-within) (c .before .before .before .before .before .before .before .pre .used-rows) (c .before .before .first-due .ensures) in let p = c .before .before .before .before .before .before .before .pre in omega arith)
+    (λ c.
+    let a = c .before .before .before .before .before .before .before .args in
+    let asked = c .before .before .before .before .before .before .before .pre in
+    let first-due = c .before .before .first-due in
+    let fw = first-within (a .space .now) (a .used) (first-due .result) (a .number) (rowTable (a .value .now)) (asked .used-within) (asked .used-rows) (first-due .ensures) in
+    let p = asked in omega arith)
     -- part-settle-rows-end
-    (λ c. let fw = first-within (c .before .before .before .before .before .before .before .args .space .now) (c .before .before .before .before .before .before .before .args .used) (c .before .before .first-due .result) (c .before .before .before .before .before .before .before .args .number) (rowTable (c .before .before .before .before .before .before .before .args .value .now)) (c .before .before .before .before .before .before .before .pre .used-within) (c .before .before .before .before .before .before .before .pre .used-rows) (c .before .before .first-due .ensures) in let p = c .before .before .before .before .before .before .before .pre in omega arith)
+    (λ c.
+    let a = c .before .before .before .before .before .before .before .args in
+    let asked = c .before .before .before .before .before .before .before .pre in
+    let first-due = c .before .before .first-due in
+    let fw = first-within (a .space .now) (a .used) (first-due .result) (a .number) (rowTable (a .value .now)) (asked .used-within) (asked .used-rows) (first-due .ensures) in
+    let p = asked in omega arith)
     -- settle-rows-requires
-    (λ c κs. let fw = first-within (c .before .before .before .before .before .before .before .before .args .space .now) (c .before .before .before .before .before .before .before .before .args .used) (c .before .before .before .first-due .result) (c .before .before .before .before .before .before .before .before .args .number) (rowTable (c .before .before .before .before .before .before .before .before .args .value .now)) (c .before .before .before .before .before .before .before .before .pre .used-within) (c .before .before .before .before .before .before .before .before .pre .used-rows) (c .before .before .before .first-due .ensures) in let p = c .before .before .before .before .before .before .before .before .pre in let rc = rows-count (c .before .before .before .before .before .before .before .before .args .space .now) (c .before .before .before .before .before .before .before .before .args .used) (c .before .before .before .first-due .result) (c .before .before .before .before .before .before .before .before .args .number) (rowTable (c .before .before .before .before .before .before .before .before .args .value .now)) (c .before .before .before .before .before .before .before .before .pre .used-within) (c .before .before .before .before .before .before .before .before .pre .used-rows) (c .before .before .before .first-due .ensures) (settled (c .before .before .before .before .before .before .before .before .args .number) (rowTable (c .before .before .before .before .before .before .before .before .args .value .now)) (rowTable (take ((c .before .before .before .before .before .before .before .before .args .used) - 8 * (c .before .before .before .first-due .result)) (drop (8 * (c .before .before .before .first-due .result)) (c .before .before .before .before .before .before .before .before .args .space .now))))) refl in (omega arith, p .value-rows))
+    (λ c κs.
+    let a = c .before .before .before .before .before .before .before .before .args in
+    let asked = c .before .before .before .before .before .before .before .before .pre in
+    let first-due = c .before .before .before .first-due in
+    let fw = first-within (a .space .now) (a .used) (first-due .result) (a .number) (rowTable (a .value .now)) (asked .used-within) (asked .used-rows) (first-due .ensures) in
+    let p = asked in
+    let rc = rows-count (a .space .now) (a .used) (first-due .result) (a .number) (rowTable (a .value .now)) (asked .used-within) (asked .used-rows) (first-due .ensures) (settled (a .number) (rowTable (a .value .now)) (rowTable (take ((a .used) - 8 * (first-due .result)) (drop (8 * (first-due .result)) (a .space .now))))) refl in (omega arith, p .value-rows))
     -- sub-copy-to
-    (λ c. let fw = first-within (c .before .before .before .before .before .before .before .before .before .before .before .args .space .now) (c .before .before .before .before .before .before .before .before .before .before .before .args .used) (c .before .before .before .before .before .before .first-due .result) (c .before .before .before .before .before .before .before .before .before .before .before .args .number) (rowTable (c .before .before .before .before .before .before .before .before .before .before .before .args .value .now)) (c .before .before .before .before .before .before .before .before .before .before .before .pre .used-within) (c .before .before .before .before .before .before .before .before .before .before .before .pre .used-rows) (c .before .before .before .before .before .before .first-due .ensures) in let p = c .before .before .before .before .before .before .before .before .before .before .before .pre in let rc = rows-count (c .before .before .before .before .before .before .before .before .before .before .before .args .space .now) (c .before .before .before .before .before .before .before .before .before .before .before .args .used) (c .before .before .before .before .before .before .first-due .result) (c .before .before .before .before .before .before .before .before .before .before .before .args .number) (rowTable (c .before .before .before .before .before .before .before .before .before .before .before .args .value .now)) (c .before .before .before .before .before .before .before .before .before .before .before .pre .used-within) (c .before .before .before .before .before .before .before .before .before .before .before .pre .used-rows) (c .before .before .before .before .before .before .first-due .ensures) (settled (c .before .before .before .before .before .before .before .before .before .before .before .args .number) (rowTable (c .before .before .before .before .before .before .before .before .before .before .before .args .value .now)) (rowTable (take ((c .before .before .before .before .before .before .before .before .before .before .before .args .used) - 8 * (c .before .before .before .before .before .before .first-due .result)) (drop (8 * (c .before .before .before .before .before .before .first-due .result)) (c .before .before .before .before .before .before .before .before .before .before .before .args .space .now))))) refl in omega (arith, c .before .before .settle-rows .kept .0, c .before .before .settle-rows .ensures .0))
+    (λ c.
+    let a = c .before .before .before .before .before .before .before .before .before .before .before .args in
+    let asked = c .before .before .before .before .before .before .before .before .before .before .before .pre in
+    let first-due = c .before .before .before .before .before .before .first-due in
+    let settle-rows = c .before .before .settle-rows in
+    let fw = first-within (a .space .now) (a .used) (first-due .result) (a .number) (rowTable (a .value .now)) (asked .used-within) (asked .used-rows) (first-due .ensures) in
+    let p = asked in
+    let rc = rows-count (a .space .now) (a .used) (first-due .result) (a .number) (rowTable (a .value .now)) (asked .used-within) (asked .used-rows) (first-due .ensures) (settled (a .number) (rowTable (a .value .now)) (rowTable (take ((a .used) - 8 * (first-due .result)) (drop (8 * (first-due .result)) (a .space .now))))) refl in omega (arith, settle-rows .kept .0, settle-rows .ensures .0))
     -- part-copy-to-start
-    (λ c. let fw = first-within (c .before .before .before .before .before .before .before .before .before .before .before .args .space .now) (c .before .before .before .before .before .before .before .before .before .before .before .args .used) (c .before .before .before .before .before .before .first-due .result) (c .before .before .before .before .before .before .before .before .before .before .before .args .number) (rowTable (c .before .before .before .before .before .before .before .before .before .before .before .args .value .now)) (c .before .before .before .before .before .before .before .before .before .before .before .pre .used-within) (c .before .before .before .before .before .before .before .before .before .before .before .pre .used-rows) (c .before .before .before .before .before .before .first-due .ensures) in let p = c .before .before .before .before .before .before .before .before .before .before .before .pre in let rc = rows-count (c .before .before .before .before .before .before .before .before .before .before .before .args .space .now) (c .before .before .before .before .before .before .before .before .before .before .before .args .used) (c .before .before .before .before .before .before .first-due .result) (c .before .before .before .before .before .before .before .before .before .before .before .args .number) (rowTable (c .before .before .before .before .before .before .before .before .before .before .before .args .value .now)) (c .before .before .before .before .before .before .before .before .before .before .before .pre .used-within) (c .before .before .before .before .before .before .before .before .before .before .before .pre .used-rows) (c .before .before .before .before .before .before .first-due .ensures) (settled (c .before .before .before .before .before .before .before .before .before .before .before .args .number) (rowTable (c .before .before .before .before .before .before .before .before .before .before .before .args .value .now)) (rowTable (take ((c .before .before .before .before .before .before .before .before .before .before .before .args .used) - 8 * (c .before .before .before .before .before .before .first-due .result)) (drop (8 * (c .before .before .before .before .before .before .first-due .result)) (c .before .before .before .before .before .before .before .before .before .before .before .args .space .now))))) refl in omega (arith, c .before .before .settle-rows .kept .0, c .before .before .settle-rows .ensures .0))
+    (λ c.
+    let a = c .before .before .before .before .before .before .before .before .before .before .before .args in
+    let asked = c .before .before .before .before .before .before .before .before .before .before .before .pre in
+    let first-due = c .before .before .before .before .before .before .first-due in
+    let settle-rows = c .before .before .settle-rows in
+    let fw = first-within (a .space .now) (a .used) (first-due .result) (a .number) (rowTable (a .value .now)) (asked .used-within) (asked .used-rows) (first-due .ensures) in
+    let p = asked in
+    let rc = rows-count (a .space .now) (a .used) (first-due .result) (a .number) (rowTable (a .value .now)) (asked .used-within) (asked .used-rows) (first-due .ensures) (settled (a .number) (rowTable (a .value .now)) (rowTable (take ((a .used) - 8 * (first-due .result)) (drop (8 * (first-due .result)) (a .space .now))))) refl in omega (arith, settle-rows .kept .0, settle-rows .ensures .0))
     -- part-copy-to-end
-    (λ c. let fw = first-within (c .before .before .before .before .before .before .before .before .before .before .before .args .space .now) (c .before .before .before .before .before .before .before .before .before .before .before .args .used) (c .before .before .before .before .before .before .first-due .result) (c .before .before .before .before .before .before .before .before .before .before .before .args .number) (rowTable (c .before .before .before .before .before .before .before .before .before .before .before .args .value .now)) (c .before .before .before .before .before .before .before .before .before .before .before .pre .used-within) (c .before .before .before .before .before .before .before .before .before .before .before .pre .used-rows) (c .before .before .before .before .before .before .first-due .ensures) in let p = c .before .before .before .before .before .before .before .before .before .before .before .pre in let rc = rows-count (c .before .before .before .before .before .before .before .before .before .before .before .args .space .now) (c .before .before .before .before .before .before .before .before .before .before .before .args .used) (c .before .before .before .before .before .before .first-due .result) (c .before .before .before .before .before .before .before .before .before .before .before .args .number) (rowTable (c .before .before .before .before .before .before .before .before .before .before .before .args .value .now)) (c .before .before .before .before .before .before .before .before .before .before .before .pre .used-within) (c .before .before .before .before .before .before .before .before .before .before .before .pre .used-rows) (c .before .before .before .before .before .before .first-due .ensures) (settled (c .before .before .before .before .before .before .before .before .before .before .before .args .number) (rowTable (c .before .before .before .before .before .before .before .before .before .before .before .args .value .now)) (rowTable (take ((c .before .before .before .before .before .before .before .before .before .before .before .args .used) - 8 * (c .before .before .before .before .before .before .first-due .result)) (drop (8 * (c .before .before .before .before .before .before .first-due .result)) (c .before .before .before .before .before .before .before .before .before .before .before .args .space .now))))) refl in omega (arith, c .before .before .settle-rows .kept .0, c .before .before .settle-rows .ensures .0))
+    (λ c.
+    let a = c .before .before .before .before .before .before .before .before .before .before .before .args in
+    let asked = c .before .before .before .before .before .before .before .before .before .before .before .pre in
+    let first-due = c .before .before .before .before .before .before .first-due in
+    let settle-rows = c .before .before .settle-rows in
+    let fw = first-within (a .space .now) (a .used) (first-due .result) (a .number) (rowTable (a .value .now)) (asked .used-within) (asked .used-rows) (first-due .ensures) in
+    let p = asked in
+    let rc = rows-count (a .space .now) (a .used) (first-due .result) (a .number) (rowTable (a .value .now)) (asked .used-within) (asked .used-rows) (first-due .ensures) (settled (a .number) (rowTable (a .value .now)) (rowTable (take ((a .used) - 8 * (first-due .result)) (drop (8 * (first-due .result)) (a .space .now))))) refl in omega (arith, settle-rows .kept .0, settle-rows .ensures .0))
     -- copy-to-requires
-    (λ c κs. let fw = first-within (c .before .before .before .before .before .before .before .before .before .before .before .before .before .args .space .now) (c .before .before .before .before .before .before .before .before .before .before .before .before .before .args .used) (c .before .before .before .before .before .before .before .before .first-due .result) (c .before .before .before .before .before .before .before .before .before .before .before .before .before .args .number) (rowTable (c .before .before .before .before .before .before .before .before .before .before .before .before .before .args .value .now)) (c .before .before .before .before .before .before .before .before .before .before .before .before .before .pre .used-within) (c .before .before .before .before .before .before .before .before .before .before .before .before .before .pre .used-rows) (c .before .before .before .before .before .before .before .before .first-due .ensures) in let p = c .before .before .before .before .before .before .before .before .before .before .before .before .before .pre in let rc = rows-count (c .before .before .before .before .before .before .before .before .before .before .before .before .before .args .space .now) (c .before .before .before .before .before .before .before .before .before .before .before .before .before .args .used) (c .before .before .before .before .before .before .before .before .first-due .result) (c .before .before .before .before .before .before .before .before .before .before .before .before .before .args .number) (rowTable (c .before .before .before .before .before .before .before .before .before .before .before .before .before .args .value .now)) (c .before .before .before .before .before .before .before .before .before .before .before .before .before .pre .used-within) (c .before .before .before .before .before .before .before .before .before .before .before .before .before .pre .used-rows) (c .before .before .before .before .before .before .before .before .first-due .ensures) (settled (c .before .before .before .before .before .before .before .before .before .before .before .before .before .args .number) (rowTable (c .before .before .before .before .before .before .before .before .before .before .before .before .before .args .value .now)) (rowTable (take ((c .before .before .before .before .before .before .before .before .before .before .before .before .before .args .used) - 8 * (c .before .before .before .before .before .before .before .before .first-due .result)) (drop (8 * (c .before .before .before .before .before .before .before .before .first-due .result)) (c .before .before .before .before .before .before .before .before .before .before .before .before .before .args .space .now))))) refl in (omega (arith, c .before .before .before .before .settle-rows .kept .0, c .before .before .before .before .settle-rows .ensures .0, length-take-le (length (c .before .before .before .before .before .before .before .before .before .before .before .before .before .args .space .now) - 8 * (c .before .before .before .before .before .before .before .before .first-due .result)) (drop (8 * (c .before .before .before .before .before .before .before .before .first-due .result)) (c .before .before .before .before .before .before .before .before .before .before .before .before .before .args .space .now)) (rw length-drop (omega arith))), omega (arith, c .before .before .before .before .settle-rows .kept .0, c .before .before .before .before .settle-rows .ensures .0)))
+    (λ c κs.
+    let a = c .before .before .before .before .before .before .before .before .before .before .before .before .before .args in
+    let asked = c .before .before .before .before .before .before .before .before .before .before .before .before .before .pre in
+    let first-due = c .before .before .before .before .before .before .before .before .first-due in
+    let settle-rows = c .before .before .before .before .settle-rows in
+    let fw = first-within (a .space .now) (a .used) (first-due .result) (a .number) (rowTable (a .value .now)) (asked .used-within) (asked .used-rows) (first-due .ensures) in
+    let p = asked in
+    let rc = rows-count (a .space .now) (a .used) (first-due .result) (a .number) (rowTable (a .value .now)) (asked .used-within) (asked .used-rows) (first-due .ensures) (settled (a .number) (rowTable (a .value .now)) (rowTable (take ((a .used) - 8 * (first-due .result)) (drop (8 * (first-due .result)) (a .space .now))))) refl in (omega (arith, settle-rows .kept .0, settle-rows .ensures .0, length-take-le (length (a .space .now) - 8 * (first-due .result)) (drop (8 * (first-due .result)) (a .space .now)) (rw length-drop (omega arith))), omega (arith, settle-rows .kept .0, settle-rows .ensures .0)))
     -- clear-requires
     (λ c κs. (omega arith, omega arith))
     -- add-result
-    (λ c. let fw = first-within (c .before .before .before .before .before .before .before .before .before .before .before .before .before .before .before .before .before .before .before .before .args .space .now) (c .before .before .before .before .before .before .before .before .before .before .before .before .before .before .before .before .before .before .before .before .args .used) (c .before .before .before .before .before .before .before .before .before .before .before .before .before .before .before .first-due .result) (c .before .before .before .before .before .before .before .before .before .before .before .before .before .before .before .before .before .before .before .before .args .number) (rowTable (c .before .before .before .before .before .before .before .before .before .before .before .before .before .before .before .before .before .before .before .before .args .value .now)) (c .before .before .before .before .before .before .before .before .before .before .before .before .before .before .before .before .before .before .before .before .pre .used-within) (c .before .before .before .before .before .before .before .before .before .before .before .before .before .before .before .before .before .before .before .before .pre .used-rows) (c .before .before .before .before .before .before .before .before .before .before .before .before .before .before .before .first-due .ensures) in let p = c .before .before .before .before .before .before .before .before .before .before .before .before .before .before .before .before .before .before .before .before .pre in let rc = rows-count (c .before .before .before .before .before .before .before .before .before .before .before .before .before .before .before .before .before .before .before .before .args .space .now) (c .before .before .before .before .before .before .before .before .before .before .before .before .before .before .before .before .before .before .before .before .args .used) (c .before .before .before .before .before .before .before .before .before .before .before .before .before .before .before .first-due .result) (c .before .before .before .before .before .before .before .before .before .before .before .before .before .before .before .before .before .before .before .before .args .number) (rowTable (c .before .before .before .before .before .before .before .before .before .before .before .before .before .before .before .before .before .before .before .before .args .value .now)) (c .before .before .before .before .before .before .before .before .before .before .before .before .before .before .before .before .before .before .before .before .pre .used-within) (c .before .before .before .before .before .before .before .before .before .before .before .before .before .before .before .before .before .before .before .before .pre .used-rows) (c .before .before .before .before .before .before .before .before .before .before .before .before .before .before .before .first-due .ensures) (settled (c .before .before .before .before .before .before .before .before .before .before .before .before .before .before .before .before .before .before .before .before .args .number) (rowTable (c .before .before .before .before .before .before .before .before .before .before .before .before .before .before .before .before .before .before .before .before .args .value .now)) (rowTable (take ((c .before .before .before .before .before .before .before .before .before .before .before .before .before .before .before .before .before .before .before .before .args .used) - 8 * (c .before .before .before .before .before .before .before .before .before .before .before .before .before .before .before .first-due .result)) (drop (8 * (c .before .before .before .before .before .before .before .before .before .before .before .before .before .before .before .first-due .result)) (c .before .before .before .before .before .before .before .before .before .before .before .before .before .before .before .before .before .before .before .before .args .space .now))))) refl in omega (arith, c .before .before .before .before .before .before .before .before .before .before .before .settle-rows .kept .0, c .before .before .before .before .before .before .before .before .before .before .before .settle-rows .ensures .0))
+    (λ c.
+    let a = c .before .before .before .before .before .before .before .before .before .before .before .before .before .before .before .before .before .before .before .before .args in
+    let asked = c .before .before .before .before .before .before .before .before .before .before .before .before .before .before .before .before .before .before .before .before .pre in
+    let first-due = c .before .before .before .before .before .before .before .before .before .before .before .before .before .before .before .first-due in
+    let settle-rows = c .before .before .before .before .before .before .before .before .before .before .before .settle-rows in
+    let fw = first-within (a .space .now) (a .used) (first-due .result) (a .number) (rowTable (a .value .now)) (asked .used-within) (asked .used-rows) (first-due .ensures) in
+    let p = asked in
+    let rc = rows-count (a .space .now) (a .used) (first-due .result) (a .number) (rowTable (a .value .now)) (asked .used-within) (asked .used-rows) (first-due .ensures) (settled (a .number) (rowTable (a .value .now)) (rowTable (take ((a .used) - 8 * (first-due .result)) (drop (8 * (first-due .result)) (a .space .now))))) refl in omega (arith, settle-rows .kept .0, settle-rows .ensures .0))
     -- same-length
-    (λ c. let fw = first-within (c .before .before .before .before .before .before .before .before .before .before .before .before .before .before .before .before .before .before .before .before .args .space .now) (c .before .before .before .before .before .before .before .before .before .before .before .before .before .before .before .before .before .before .before .before .args .used) (c .before .before .before .before .before .before .before .before .before .before .before .before .before .before .before .first-due .result) (c .before .before .before .before .before .before .before .before .before .before .before .before .before .before .before .before .before .before .before .before .args .number) (rowTable (c .before .before .before .before .before .before .before .before .before .before .before .before .before .before .before .before .before .before .before .before .args .value .now)) (c .before .before .before .before .before .before .before .before .before .before .before .before .before .before .before .before .before .before .before .before .pre .used-within) (c .before .before .before .before .before .before .before .before .before .before .before .before .before .before .before .before .before .before .before .before .pre .used-rows) (c .before .before .before .before .before .before .before .before .before .before .before .before .before .before .before .first-due .ensures) in let p = c .before .before .before .before .before .before .before .before .before .before .before .before .before .before .before .before .before .before .before .before .pre in mid-length (c .before .before .before .before .before .before .before .before .before .before .before .before .before .before .before .before .before .before .before .before .args .space .now) (c .before .before .before .before .before .before .copy-to .last .0) (8 * (c .before .before .before .before .before .before .before .before .before .before .before .before .before .before .before .first-due .result)) (length (c .before .before .before .before .before .before .before .before .before .before .before .before .before .before .before .before .before .before .before .before .args .space .now) - 8 * (c .before .before .before .before .before .before .before .before .before .before .before .before .before .before .before .first-due .result)) (omega arith) (c .before .before .before .before .before .before .copy-to .kept .0 ∙ length-take-le (length (c .before .before .before .before .before .before .before .before .before .before .before .before .before .before .before .before .before .before .before .before .args .space .now) - 8 * (c .before .before .before .before .before .before .before .before .before .before .before .before .before .before .before .first-due .result)) (drop (8 * (c .before .before .before .before .before .before .before .before .before .before .before .before .before .before .before .first-due .result)) (c .before .before .before .before .before .before .before .before .before .before .before .before .before .before .before .before .before .before .before .before .args .space .now)) (rw length-drop (omega arith))))
+    (λ c.
+    let a = c .before .before .before .before .before .before .before .before .before .before .before .before .before .before .before .before .before .before .before .before .args in
+    let asked = c .before .before .before .before .before .before .before .before .before .before .before .before .before .before .before .before .before .before .before .before .pre in
+    let first-due = c .before .before .before .before .before .before .before .before .before .before .before .before .before .before .before .first-due in
+    let copy-to = c .before .before .before .before .before .before .copy-to in
+    let fw = first-within (a .space .now) (a .used) (first-due .result) (a .number) (rowTable (a .value .now)) (asked .used-within) (asked .used-rows) (first-due .ensures) in
+    let p = asked in mid-length (a .space .now) (copy-to .last .0) (8 * (first-due .result)) (length (a .space .now) - 8 * (first-due .result)) (omega arith) (copy-to .kept .0 ∙ length-take-le (length (a .space .now) - 8 * (first-due .result)) (drop (8 * (first-due .result)) (a .space .now)) (rw length-drop (omega arith))))
     -- same-length-2
     (λ c. c .before .before .clear .kept .0 ∙ c .before .before .before .before .before .before .before .before .before .before .before .settle-rows .kept .0)
     -- returns
-    (λ c. let fw = first-within (c .before .before .before .before .before .before .before .before .before .before .before .before .before .before .before .before .before .before .before .before .args .space .now) (c .before .before .before .before .before .before .before .before .before .before .before .before .before .before .before .before .before .before .before .before .args .used) (c .before .before .before .before .before .before .before .before .before .before .before .before .before .before .before .first-due .result) (c .before .before .before .before .before .before .before .before .before .before .before .before .before .before .before .before .before .before .before .before .args .number) (rowTable (c .before .before .before .before .before .before .before .before .before .before .before .before .before .before .before .before .before .before .before .before .args .value .now)) (c .before .before .before .before .before .before .before .before .before .before .before .before .before .before .before .before .before .before .before .before .pre .used-within) (c .before .before .before .before .before .before .before .before .before .before .before .before .before .before .before .before .before .before .before .before .pre .used-rows) (c .before .before .before .before .before .before .before .before .before .before .before .before .before .before .before .first-due .ensures) in let p = c .before .before .before .before .before .before .before .before .before .before .before .before .before .before .before .before .before .before .before .before .pre in let rc = rows-count (c .before .before .before .before .before .before .before .before .before .before .before .before .before .before .before .before .before .before .before .before .args .space .now) (c .before .before .before .before .before .before .before .before .before .before .before .before .before .before .before .before .before .before .before .before .args .used) (c .before .before .before .before .before .before .before .before .before .before .before .before .before .before .before .first-due .result) (c .before .before .before .before .before .before .before .before .before .before .before .before .before .before .before .before .before .before .before .before .args .number) (rowTable (c .before .before .before .before .before .before .before .before .before .before .before .before .before .before .before .before .before .before .before .before .args .value .now)) (c .before .before .before .before .before .before .before .before .before .before .before .before .before .before .before .before .before .before .before .before .pre .used-within) (c .before .before .before .before .before .before .before .before .before .before .before .before .before .before .before .before .before .before .before .before .pre .used-rows) (c .before .before .before .before .before .before .before .before .before .before .before .before .before .before .before .first-due .ensures) (settled (c .before .before .before .before .before .before .before .before .before .before .before .before .before .before .before .before .before .before .before .before .args .number) (rowTable (c .before .before .before .before .before .before .before .before .before .before .before .before .before .before .before .before .before .before .before .before .args .value .now)) (rowTable (take ((c .before .before .before .before .before .before .before .before .before .before .before .before .before .before .before .before .before .before .before .before .args .used) - 8 * (c .before .before .before .before .before .before .before .before .before .before .before .before .before .before .before .first-due .result)) (drop (8 * (c .before .before .before .before .before .before .before .before .before .before .before .before .before .before .before .first-due .result)) (c .before .before .before .before .before .before .before .before .before .before .before .before .before .before .before .before .before .before .before .before .args .space .now))))) refl in record { rows = omega (arith, c .before .before .before .before .before .before .before .before .before .before .before .settle-rows .ensures .0); bytes = space-settled (c .before .before .before .before .before .before .before .before .before .before .before .before .before .before .before .before .before .before .before .before .args .space .now) (c .before .before .before .before .before .before .before .before .before .before .before .before .before .before .before .before .before .before .before .before .args .used) (c .before .before .before .before .before .before .before .before .before .before .before .before .before .before .before .first-due .result) (c .before .before .before .before .before .before .before .before .before .before .before .before .before .before .before .before .before .before .before .before .args .number) (rowTable (c .before .before .before .before .before .before .before .before .before .before .before .before .before .before .before .before .before .before .before .before .args .value .now)) (c .before .before .before .before .before .before .before .before .before .before .before .before .before .before .before .before .before .before .before .before .pre .used-within) (c .before .before .before .before .before .before .before .before .before .before .before .before .before .before .before .before .before .before .before .before .pre .used-rows) (c .before .before .before .before .before .before .before .before .before .before .before .before .before .before .before .first-due .ensures) (settled (c .before .before .before .before .before .before .before .before .before .before .before .before .before .before .before .before .before .before .before .before .args .number) (rowTable (c .before .before .before .before .before .before .before .before .before .before .before .before .before .before .before .before .before .before .before .before .args .value .now)) (rowTable (take ((c .before .before .before .before .before .before .before .before .before .before .before .before .before .before .before .before .before .before .before .before .args .used) - 8 * (c .before .before .before .before .before .before .before .before .before .before .before .before .before .before .before .first-due .result)) (drop (8 * (c .before .before .before .before .before .before .before .before .before .before .before .before .before .before .before .first-due .result)) (c .before .before .before .before .before .before .before .before .before .before .before .before .before .before .before .before .before .before .before .before .args .space .now))))) refl (λ j. omega (arith, c .before .before .before .before .before .before .before .before .before .before .before .before .before .before .before .before .before .before .before .slice-known .given j)) (c .before .before .before .before .before .before .before .before .before .before .before .before .before .before .before .before .before .before .before .before .args .work .now) (c .before .before .before .before .before .before .before .before .before .before .before .settle-rows .last .0) _ _ (c .before .before .before .before .before .before .before .before .before .before .before .settle-rows .result) (c .before .before .before .before .before .before .before .before .before .before .before .settle-rows .ensures .0) (omega arith) (c .before .before .before .before .before .before .before .before .before .before .before .settle-rows .ensures .1) (c .before .before .before .before .before .before .copy-to .ensures); cleared = all-cleared (c .before .before .before .before .before .before .before .before .before .before .before .settle-rows .last .0) _ (length (c .before .before .before .before .before .before .before .before .before .before .before .settle-rows .last .0)) refl (c .before .before .clear .ensures) ∙ ap (λ (j : ℕ). replicate j 0) (c .before .before .before .before .before .before .before .before .before .before .before .settle-rows .kept .0) }))
+    (λ c.
+    let a = c .before .before .before .before .before .before .before .before .before .before .before .before .before .before .before .before .before .before .before .before .args in
+    let asked = c .before .before .before .before .before .before .before .before .before .before .before .before .before .before .before .before .before .before .before .before .pre in
+    let first-due = c .before .before .before .before .before .before .before .before .before .before .before .before .before .before .before .first-due in
+    let settle-rows = c .before .before .before .before .before .before .before .before .before .before .before .settle-rows in
+    let fw = first-within (a .space .now) (a .used) (first-due .result) (a .number) (rowTable (a .value .now)) (asked .used-within) (asked .used-rows) (first-due .ensures) in
+    let p = asked in
+    let rc = rows-count (a .space .now) (a .used) (first-due .result) (a .number) (rowTable (a .value .now)) (asked .used-within) (asked .used-rows) (first-due .ensures) (settled (a .number) (rowTable (a .value .now)) (rowTable (take ((a .used) - 8 * (first-due .result)) (drop (8 * (first-due .result)) (a .space .now))))) refl in record { rows = omega (arith, settle-rows .ensures .0); bytes = space-settled (a .space .now) (a .used) (first-due .result) (a .number) (rowTable (a .value .now)) (asked .used-within) (asked .used-rows) (first-due .ensures) (settled (a .number) (rowTable (a .value .now)) (rowTable (take ((a .used) - 8 * (first-due .result)) (drop (8 * (first-due .result)) (a .space .now))))) refl (λ j. omega (arith, c .before .before .before .before .before .before .before .before .before .before .before .before .before .before .before .before .before .before .before .slice-known .given j)) (a .work .now) (settle-rows .last .0) _ _ (settle-rows .result) (settle-rows .ensures .0) (omega arith) (settle-rows .ensures .1) (c .before .before .before .before .before .before .copy-to .ensures); cleared = all-cleared (settle-rows .last .0) _ (length (settle-rows .last .0)) refl (c .before .before .clear .ensures) ∙ ap (λ (j : ℕ). replicate j 0) (settle-rows .kept .0) }))

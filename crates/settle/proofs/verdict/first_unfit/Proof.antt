@@ -37,12 +37,21 @@ first-unfit-spec =
     -- cast-t7
     (λ c. omega arith)
     -- returns
-    (λ c. let z = row-table-length (c .before .before .before .before .before .before .before .args .rows .now) in sym (first-here replyKind (rowTable (c .before .before .before .before .before .before .before .args .rows .now)) (c .before .before .before .before .loop .i) [] _ (omega arith) (row-table-at (c .before .before .before .before .before .before .before .args .rows .now) (c .before .before .before .before .loop .i) [] (omega arith)) (kind-of _ _ _ (c .before .before .row-at .ensures) (c .before .kind-fits .ensures) ∙ not-true _ (c .if1 .taken))) ∙ c .before .before .before .before .loop .inv .1)
+    (λ c.
+    let a = c .before .before .before .before .before .before .before .args in
+    let l = c .before .before .before .before .loop in
+    let z = row-table-length (a .rows .now) in sym (first-here replyKind (rowTable (a .rows .now)) (l .i) [] _ (omega arith) (row-table-at (a .rows .now) (l .i) [] (omega arith)) (kind-of _ _ _ (c .before .before .row-at .ensures) (c .before .kind-fits .ensures) ∙ not-true _ (c .if1 .taken))) ∙ l .inv .1)
     -- add-i
     (λ c. omega arith)
     -- loop-less
     (λ c. omega arith)
     -- loop-again
-    (λ c. let z = row-table-length (c .before .before .before .before .before .before .before .args .rows .now) in (omega arith, sym (first-on replyKind (rowTable (c .before .before .before .before .before .before .before .args .rows .now)) (c .before .before .before .before .loop .i) [] _ (omega arith) (row-table-at (c .before .before .before .before .before .before .before .args .rows .now) (c .before .before .before .before .loop .i) [] (omega arith)) (kind-of _ _ _ (c .before .before .row-at .ensures) (c .before .kind-fits .ensures) ∙ not-false _ (c .if1 .left))) ∙ c .before .before .before .before .loop .inv .1))
+    (λ c.
+    let a = c .before .before .before .before .before .before .before .args in
+    let l = c .before .before .before .before .loop in
+    let z = row-table-length (a .rows .now) in (omega arith, sym (first-on replyKind (rowTable (a .rows .now)) (l .i) [] _ (omega arith) (row-table-at (a .rows .now) (l .i) [] (omega arith)) (kind-of _ _ _ (c .before .before .row-at .ensures) (c .before .kind-fits .ensures) ∙ not-false _ (c .if1 .left))) ∙ l .inv .1))
     -- returns-2
-    (λ c. let z = row-table-length (c .before .before .before .before .args .rows .now) in sym (first-none replyKind (rowTable (c .before .before .before .before .args .rows .now)) (c .before .loop .i) (omega arith)) ∙ c .before .loop .inv .1))
+    (λ c.
+    let a = c .before .before .before .before .args in
+    let l = c .before .loop in
+    let z = row-table-length (a .rows .now) in sym (first-none replyKind (rowTable (a .rows .now)) (l .i) (omega arith)) ∙ l .inv .1))

@@ -15,8 +15,14 @@ first-wrong-spec =
     -- u16-at-requires
     (λ c κs. omega arith)
     -- returns
-    (λ c. another-type (formOf (typeTable (c .before .before .before .before .args .types .now))) (c .before .before .before .before .args .rows .now) (c .before .before .before .before .pre .0) _ (c .before .u16-at .ensures) (c .before .before .before .before .args .ty) (c .if1 .taken))
+    (λ c.
+    let a = c .before .before .before .before .args in
+    another-type (formOf (typeTable (a .types .now))) (a .rows .now) (c .before .before .before .before .pre .0) _ (c .before .u16-at .ensures) (a .ty) (c .if1 .taken))
     -- first-bad-requires
-    (λ c κs. (c .before .before .before .before .pre .1, c .before .before .before .before .pre .2))
+    (λ c κs.
+    let asked = c .before .before .before .before .pre in
+    (asked .1, asked .2))
     -- returns-2
-    (λ c. c .first-bad .ensures ∙ same-type (formOf (typeTable (c .before .before .before .before .before .args .types .now))) (c .before .before .before .before .before .args .rows .now) (c .before .before .before .before .before .pre .0) _ (c .before .before .u16-at .ensures) (c .before .before .before .before .before .args .ty) (c .before .if1 .left)))
+    (λ c.
+    let a = c .before .before .before .before .before .args in
+    c .first-bad .ensures ∙ same-type (formOf (typeTable (a .types .now))) (a .rows .now) (c .before .before .before .before .before .pre .0) _ (c .before .before .u16-at .ensures) (a .ty) (c .before .if1 .left)))

@@ -11,17 +11,27 @@ head-ok-spec =
     tie.close
     (tie.spec
     -- returns
-    (λ c. sym (too-short (board (c .before .before .args .m)) (c .before .before .args .answer .now) (c .if1 .taken)))
+    (λ c.
+    let a = c .before .before .args in
+    sym (too-short (board (a .m)) (a .answer .now) (c .if1 .taken)))
     (λ c κs. search needs)
     -- returns-2
-    (λ c. sym (no-row (board (c .before .before .before .before .args .m)) (c .before .before .before .before .args .answer .now) (c .before .before .if1 .left) _ (c .before .u16-at .ensures) (c .if2 .taken)))
+    (λ c.
+    let a = c .before .before .before .before .args in
+    sym (no-row (board (a .m)) (a .answer .now) (c .before .before .if1 .left) _ (c .before .u16-at .ensures) (c .if2 .taken)))
     -- returns-3
-    (λ c. sym (too-many (board (c .before .before .before .before .before .before .args .m)) (c .before .before .before .before .before .before .args .answer .now) (c .before .before .before .before .if1 .left) _ (c .before .before .before .u16-at .ensures) (c .before .before .if2 .left) (c .if3 .taken)))
+    (λ c.
+    let a = c .before .before .before .before .before .before .args in
+    sym (too-many (board (a .m)) (a .answer .now) (c .before .before .before .before .if1 .left) _ (c .before .before .before .u16-at .ensures) (c .before .before .if2 .left) (c .if3 .taken)))
     (λ c κs. search needs)
     -- returns-4
-    (λ c. sym (not-zero (board (c .before .before .before .before .before .before .before .before .args .m)) (c .before .before .before .before .before .before .before .before .args .answer .now) (c .before .before .before .before .before .before .if1 .left) _ (c .before .before .before .before .before .u16-at .ensures) (c .before .before .before .before .if2 .left) (c .before .before .if3 .left) _ (c .before .u16-at2 .ensures) (c .if4 .taken)))
+    (λ c.
+    let a = c .before .before .before .before .before .before .before .before .args in
+    sym (not-zero (board (a .m)) (a .answer .now) (c .before .before .before .before .before .before .if1 .left) _ (c .before .before .before .before .before .u16-at .ensures) (c .before .before .before .before .if2 .left) (c .before .before .if3 .left) _ (c .before .u16-at2 .ensures) (c .if4 .taken)))
     (λ c. search needs)
     (λ c. search needs)
     (λ c. search needs)
     -- returns-5
-    (λ c. by-length (board (c .before .before .before .before .before .before .before .before .args .m)) (c .before .before .before .before .before .before .before .before .args .answer .now) (c .before .before .before .before .before .before .if1 .left) _ (c .before .before .before .before .before .u16-at .ensures) (c .before .before .before .before .if2 .left) (c .before .before .if3 .left) _ (c .before .u16-at2 .ensures) (c .if4 .left)))
+    (λ c.
+    let a = c .before .before .before .before .before .before .before .before .args in
+    by-length (board (a .m)) (a .answer .now) (c .before .before .before .before .before .before .if1 .left) _ (c .before .before .before .before .before .u16-at .ensures) (c .before .before .before .before .if2 .left) (c .before .before .if3 .left) _ (c .before .u16-at2 .ensures) (c .if4 .left)))

@@ -11,14 +11,26 @@ kind-fits-spec =
     -- returns
     (λ c. sym (member-here (c .before .args .k) 1 _ (c .if1 .taken)))
     -- returns-2
-    (λ c. sym (member-on (c .before .before .args .k) 1 _ (c .before .if1 .left) ∙ member-here (c .before .before .args .k) 2 _ (c .if2 .taken)))
+    (λ c.
+    let a = c .before .before .args in
+    sym (member-on (a .k) 1 _ (c .before .if1 .left) ∙ member-here (a .k) 2 _ (c .if2 .taken)))
     -- returns-3
-    (λ c. sym (member-on (c .before .before .before .args .k) 1 _ (c .before .before .if1 .left) ∙ member-on (c .before .before .before .args .k) 2 _ (c .before .if2 .left) ∙ member-here (c .before .before .before .args .k) 3 _ (c .if3 .taken)))
+    (λ c.
+    let a = c .before .before .before .args in
+    sym (member-on (a .k) 1 _ (c .before .before .if1 .left) ∙ member-on (a .k) 2 _ (c .before .if2 .left) ∙ member-here (a .k) 3 _ (c .if3 .taken)))
     -- returns-4
-    (λ c. sym (member-on (c .before .before .before .before .args .k) 1 _ (c .before .before .before .if1 .left) ∙ member-on (c .before .before .before .before .args .k) 2 _ (c .before .before .if2 .left) ∙ member-on (c .before .before .before .before .args .k) 3 _ (c .before .if3 .left) ∙ member-here (c .before .before .before .before .args .k) 4 _ (c .if4 .taken)))
+    (λ c.
+    let a = c .before .before .before .before .args in
+    sym (member-on (a .k) 1 _ (c .before .before .before .if1 .left) ∙ member-on (a .k) 2 _ (c .before .before .if2 .left) ∙ member-on (a .k) 3 _ (c .before .if3 .left) ∙ member-here (a .k) 4 _ (c .if4 .taken)))
     -- returns-5
-    (λ c. sym (member-on (c .before .before .before .before .before .args .k) 1 _ (c .before .before .before .before .if1 .left) ∙ member-on (c .before .before .before .before .before .args .k) 2 _ (c .before .before .before .if2 .left) ∙ member-on (c .before .before .before .before .before .args .k) 3 _ (c .before .before .if3 .left) ∙ member-on (c .before .before .before .before .before .args .k) 4 _ (c .before .if4 .left) ∙ member-here (c .before .before .before .before .before .args .k) 12 _ (c .if5 .taken)))
+    (λ c.
+    let a = c .before .before .before .before .before .args in
+    sym (member-on (a .k) 1 _ (c .before .before .before .before .if1 .left) ∙ member-on (a .k) 2 _ (c .before .before .before .if2 .left) ∙ member-on (a .k) 3 _ (c .before .before .if3 .left) ∙ member-on (a .k) 4 _ (c .before .if4 .left) ∙ member-here (a .k) 12 _ (c .if5 .taken)))
     -- returns-6
-    (λ c. sym (member-on (c .before .before .before .before .before .before .args .k) 1 _ (c .before .before .before .before .before .if1 .left) ∙ member-on (c .before .before .before .before .before .before .args .k) 2 _ (c .before .before .before .before .if2 .left) ∙ member-on (c .before .before .before .before .before .before .args .k) 3 _ (c .before .before .before .if3 .left) ∙ member-on (c .before .before .before .before .before .before .args .k) 4 _ (c .before .before .if4 .left) ∙ member-on (c .before .before .before .before .before .before .args .k) 12 _ (c .before .if5 .left) ∙ member-here (c .before .before .before .before .before .before .args .k) 13 _ (c .if6 .taken)))
+    (λ c.
+    let a = c .before .before .before .before .before .before .args in
+    sym (member-on (a .k) 1 _ (c .before .before .before .before .before .if1 .left) ∙ member-on (a .k) 2 _ (c .before .before .before .before .if2 .left) ∙ member-on (a .k) 3 _ (c .before .before .before .if3 .left) ∙ member-on (a .k) 4 _ (c .before .before .if4 .left) ∙ member-on (a .k) 12 _ (c .before .if5 .left) ∙ member-here (a .k) 13 _ (c .if6 .taken)))
     -- returns-7
-    (λ c. member-last (c .before .before .before .before .before .before .args .k) 16 ∙ sym (member-on (c .before .before .before .before .before .before .args .k) 1 _ (c .before .before .before .before .before .if1 .left) ∙ member-on (c .before .before .before .before .before .before .args .k) 2 _ (c .before .before .before .before .if2 .left) ∙ member-on (c .before .before .before .before .before .before .args .k) 3 _ (c .before .before .before .if3 .left) ∙ member-on (c .before .before .before .before .before .before .args .k) 4 _ (c .before .before .if4 .left) ∙ member-on (c .before .before .before .before .before .before .args .k) 12 _ (c .before .if5 .left) ∙ member-on (c .before .before .before .before .before .before .args .k) 13 _ (c .if6 .left))))
+    (λ c.
+    let a = c .before .before .before .before .before .before .args in
+    member-last (a .k) 16 ∙ sym (member-on (a .k) 1 _ (c .before .before .before .before .before .if1 .left) ∙ member-on (a .k) 2 _ (c .before .before .before .before .if2 .left) ∙ member-on (a .k) 3 _ (c .before .before .before .if3 .left) ∙ member-on (a .k) 4 _ (c .before .before .if4 .left) ∙ member-on (a .k) 12 _ (c .before .if5 .left) ∙ member-on (a .k) 13 _ (c .if6 .left))))

@@ -19,23 +19,33 @@ rows-verdict-spec =
     (λ c κs. omega arith)
     (λ c. search needs)
     -- returns
-    (λ c. bad-row (c .before .before .before .before .before .before .before .before .args .types .now) (c .before .before .before .before .before .before .before .before .args .rows .now) (c .before .before .before .before .before .before .before .before .args .value .now) (c .before .before .before .before .before .before .before .before .args .number) (c .before .before .before .before .before .before .before .before .args .ty) (c .before .before .before .before .before .before .before .before .args .room) _ (c .before .before .before .before .type-rows .ensures) _ _ (sym (c .before .shape .given .1) ∙ c .before .before .before .check-shape .ensures))
+    (λ c.
+    let a = c .before .before .before .before .before .before .before .before .args in
+    bad-row (a .types .now) (a .rows .now) (a .value .now) (a .number) (a .ty) (a .room) _ (c .before .before .before .before .type-rows .ensures) _ _ (sym (c .before .shape .given .1) ∙ c .before .before .before .check-shape .ensures))
     (λ c. search needs)
     -- first-unfit-requires
     (λ c κs. omega arith)
     (λ c. search needs)
     -- returns-2
-    (λ c. bad-kind (c .before .before .before .before .before .before .before .before .before .before .before .args .types .now) (c .before .before .before .before .before .before .before .before .before .before .before .args .rows .now) (c .before .before .before .before .before .before .before .before .before .before .before .args .value .now) (c .before .before .before .before .before .before .before .before .before .before .before .args .number) (c .before .before .before .before .before .before .before .before .before .before .before .args .ty) (c .before .before .before .before .before .before .before .before .before .before .before .args .room) _ (c .before .before .before .before .before .before .before .type-rows .ensures) (sym (c .before .before .before .before .enum-told .given .1) ∙ c .before .before .before .before .before .before .check-shape .ensures) _ (sym (ap found (c .before .unfit .given .1)) ∙ c .before .before .before .first-unfit .ensures))
+    (λ c.
+    let a = c .before .before .before .before .before .before .before .before .before .before .before .args in
+    bad-kind (a .types .now) (a .rows .now) (a .value .now) (a .number) (a .ty) (a .room) _ (c .before .before .before .before .before .before .before .type-rows .ensures) (sym (c .before .before .before .before .enum-told .given .1) ∙ c .before .before .before .before .before .before .check-shape .ensures) _ (sym (ap found (c .before .unfit .given .1)) ∙ c .before .before .before .first-unfit .ensures))
     (λ c. search needs)
     -- first-wrong-requires
     (λ c κs. (omega arith, omega arith, bytes-closed 1 (c .before .before .before .before .before .before .type-rows .result) (c .before .before .before .before .before .before .before .before .before .before .args .value .now) (sym (sym (c .before .before .before .enum-told .given .1) ∙ c .before .before .before .before .before .check-shape .ensures))))
     (λ c. search needs)
     -- returns-3
-    (λ c. bad-typing (c .before .before .before .before .before .before .before .before .before .before .before .before .before .before .args .types .now) (c .before .before .before .before .before .before .before .before .before .before .before .before .before .before .args .rows .now) (c .before .before .before .before .before .before .before .before .before .before .before .before .before .before .args .value .now) (c .before .before .before .before .before .before .before .before .before .before .before .before .before .before .args .number) (c .before .before .before .before .before .before .before .before .before .before .before .before .before .before .args .ty) (c .before .before .before .before .before .before .before .before .before .before .before .before .before .before .args .room) _ (c .before .before .before .before .before .before .before .before .before .before .type-rows .ensures) (sym (c .before .before .before .before .before .before .before .enum-told .given .1) ∙ c .before .before .before .before .before .before .before .before .before .check-shape .ensures) (sym (ap found (c .before .before .before .before .enum-told2 .given .1)) ∙ c .before .before .before .before .before .before .first-unfit .ensures) _ (sym (ap found (c .before .wrong .given .1)) ∙ c .before .before .before .first-wrong .ensures))
+    (λ c.
+    let a = c .before .before .before .before .before .before .before .before .before .before .before .before .before .before .args in
+    bad-typing (a .types .now) (a .rows .now) (a .value .now) (a .number) (a .ty) (a .room) _ (c .before .before .before .before .before .before .before .before .before .before .type-rows .ensures) (sym (c .before .before .before .before .before .before .before .enum-told .given .1) ∙ c .before .before .before .before .before .before .before .before .before .check-shape .ensures) (sym (ap found (c .before .before .before .before .enum-told2 .given .1)) ∙ c .before .before .before .before .before .before .first-unfit .ensures) _ (sym (ap found (c .before .wrong .given .1)) ∙ c .before .before .before .first-wrong .ensures))
     (λ c. search needs)
     -- rows-after-requires
     (λ c κs. (omega arith, omega arith))
     -- returns-4
-    (λ c. no-room (c .before .before .before .before .before .before .before .before .before .before .before .before .before .before .before .args .types .now) (c .before .before .before .before .before .before .before .before .before .before .before .before .before .before .before .args .rows .now) (c .before .before .before .before .before .before .before .before .before .before .before .before .before .before .before .args .value .now) (c .before .before .before .before .before .before .before .before .before .before .before .before .before .before .before .args .number) (c .before .before .before .before .before .before .before .before .before .before .before .before .before .before .before .args .ty) (c .before .before .before .before .before .before .before .before .before .before .before .before .before .before .before .args .room) _ (c .before .before .before .before .before .before .before .before .before .before .before .type-rows .ensures) (sym (c .before .before .before .before .before .before .before .before .enum-told .given .1) ∙ c .before .before .before .before .before .before .before .before .before .before .check-shape .ensures) (sym (ap found (c .before .before .before .before .before .enum-told2 .given .1)) ∙ c .before .before .before .before .before .before .before .first-unfit .ensures) (sym (ap found (c .before .before .enum-told3 .given .1)) ∙ c .before .before .before .before .first-wrong .ensures) _ (c .before .rows-after .ensures) (c .if1 .taken))
+    (λ c.
+    let a = c .before .before .before .before .before .before .before .before .before .before .before .before .before .before .before .args in
+    no-room (a .types .now) (a .rows .now) (a .value .now) (a .number) (a .ty) (a .room) _ (c .before .before .before .before .before .before .before .before .before .before .before .type-rows .ensures) (sym (c .before .before .before .before .before .before .before .before .enum-told .given .1) ∙ c .before .before .before .before .before .before .before .before .before .before .check-shape .ensures) (sym (ap found (c .before .before .before .before .before .enum-told2 .given .1)) ∙ c .before .before .before .before .before .before .before .first-unfit .ensures) (sym (ap found (c .before .before .enum-told3 .given .1)) ∙ c .before .before .before .before .first-wrong .ensures) _ (c .before .rows-after .ensures) (c .if1 .taken))
     -- returns-5
-    (λ c. all-good (c .before .before .before .before .before .before .before .before .before .before .before .before .before .before .before .args .types .now) (c .before .before .before .before .before .before .before .before .before .before .before .before .before .before .before .args .rows .now) (c .before .before .before .before .before .before .before .before .before .before .before .before .before .before .before .args .value .now) (c .before .before .before .before .before .before .before .before .before .before .before .before .before .before .before .args .number) (c .before .before .before .before .before .before .before .before .before .before .before .before .before .before .before .args .ty) (c .before .before .before .before .before .before .before .before .before .before .before .before .before .before .before .args .room) _ (c .before .before .before .before .before .before .before .before .before .before .before .type-rows .ensures) (sym (c .before .before .before .before .before .before .before .before .enum-told .given .1) ∙ c .before .before .before .before .before .before .before .before .before .before .check-shape .ensures) (sym (ap found (c .before .before .before .before .before .enum-told2 .given .1)) ∙ c .before .before .before .before .before .before .before .first-unfit .ensures) (sym (ap found (c .before .before .enum-told3 .given .1)) ∙ c .before .before .before .before .first-wrong .ensures) _ (c .before .rows-after .ensures) (c .if1 .left)))
+    (λ c.
+    let a = c .before .before .before .before .before .before .before .before .before .before .before .before .before .before .before .args in
+    all-good (a .types .now) (a .rows .now) (a .value .now) (a .number) (a .ty) (a .room) _ (c .before .before .before .before .before .before .before .before .before .before .before .type-rows .ensures) (sym (c .before .before .before .before .before .before .before .before .enum-told .given .1) ∙ c .before .before .before .before .before .before .before .before .before .before .check-shape .ensures) (sym (ap found (c .before .before .before .before .before .enum-told2 .given .1)) ∙ c .before .before .before .before .before .before .before .first-unfit .ensures) (sym (ap found (c .before .before .enum-told3 .given .1)) ∙ c .before .before .before .before .first-wrong .ensures) _ (c .before .rows-after .ensures) (c .if1 .left)))

@@ -15,17 +15,29 @@ reply-spec =
     (tie.spec
     (λ c κs. search needs)
     -- reply-verdict-requires
-    (λ c κs. (record { types = omega (arith, ap (λ (b : Limits). b .types) (c .before .arm-limits .ensures)); rows = omega (arith, ap (λ (b : Limits). b .rows) (c .before .arm-limits .ensures)); calls = omega (arith, ap (λ (b : Limits). b .calls) (c .before .arm-limits .ensures)) }, omega (arith, ap (λ (b : Limits). b .replyRows) (c .before .arm-limits .ensures)), omega (arith, ap (λ (b : Limits). b .lastNumber) (c .before .arm-limits .ensures))))
+    (λ c κs.
+    let arm-limits = c .before .arm-limits in
+    (record { types = omega (arith, ap (λ (b : Limits). b .types) (arm-limits .ensures)); rows = omega (arith, ap (λ (b : Limits). b .rows) (arm-limits .ensures)); calls = omega (arith, ap (λ (b : Limits). b .calls) (arm-limits .ensures)) }, omega (arith, ap (λ (b : Limits). b .replyRows) (arm-limits .ensures)), omega (arith, ap (λ (b : Limits). b .lastNumber) (arm-limits .ensures))))
     (λ c. search needs)
     -- settle-requires
-    (λ c κs. let p = passed (board (c .before .before .before .before .before .before .arm-limits .result)) (c .before .before .before .before .before .before .before .before .before .before .args .kept .now) (length (c .before .before .before .before .before .before .before .before .before .before .args .work .now)) (c .before .before .before .before .before .before .before .before .before .before .args .answer .now) (sym (c .before .before .before .before .reply-verdict .ensures) ∙ (c .before .before .enum-told .given .1)) in (record { ready = record { room = record { types = omega (arith, ap (λ (b : Limits). b .types) (c .before .before .before .before .before .before .arm-limits .ensures)); rows = omega (arith, ap (λ (b : Limits). b .rows) (c .before .before .before .before .before .before .arm-limits .ensures)); calls = omega (arith, ap (λ (b : Limits). b .calls) (c .before .before .before .before .before .before .arm-limits .ensures)) }; long = p .long; head = head-passed (board (c .before .before .before .before .before .before .arm-limits .result)) (c .before .before .before .before .before .before .before .before .before .before .args .kept .now) (p .is-sound) }; is-sound = p .is-sound; accepted = p .accepted; numbers = omega (arith, ap (λ (b : Limits). b .lastNumber) (c .before .before .before .before .before .before .arm-limits .ensures)) }, omega (arith, p .work, ap (λ (b : Limits). b .workBytes) (c .before .before .before .before .before .before .arm-limits .ensures), ap (λ (b : Limits). b .rows) (c .before .before .before .before .before .before .arm-limits .ensures))))
+    (λ c κs.
+    let a = c .before .before .before .before .before .before .before .before .before .before .args in
+    let arm-limits = c .before .before .before .before .before .before .arm-limits in
+    let p = passed (board (arm-limits .result)) (a .kept .now) (length (a .work .now)) (a .answer .now) (sym (c .before .before .before .before .reply-verdict .ensures) ∙ (c .before .before .enum-told .given .1)) in (record { ready = record { room = record { types = omega (arith, ap (λ (b : Limits). b .types) (arm-limits .ensures)); rows = omega (arith, ap (λ (b : Limits). b .rows) (arm-limits .ensures)); calls = omega (arith, ap (λ (b : Limits). b .calls) (arm-limits .ensures)) }; long = p .long; head = head-passed (board (arm-limits .result)) (a .kept .now) (p .is-sound) }; is-sound = p .is-sound; accepted = p .accepted; numbers = omega (arith, ap (λ (b : Limits). b .lastNumber) (arm-limits .ensures)) }, omega (arith, p .work, ap (λ (b : Limits). b .workBytes) (arm-limits .ensures), ap (λ (b : Limits). b .rows) (arm-limits .ensures))))
     (λ c. search needs)
     -- same-length
     (λ c. c .before .before .before .before .settle .kept .0)
     -- same-length-2
     (λ c. c .before .before .before .before .settle .kept .1 .0)
     -- returns
-    (λ c. replies-settled (board (c .before .before .before .before .before .before .before .before .before .before .before .arm-limits .result)) (c .before .before .before .before .before .before .before .before .before .before .before .arm-limits .ensures) (c .before .before .before .before .before .before .before .before .before .before .before .before .before .before .before .args .kept .now) (c .before .before .before .before .before .before .before .before .before .before .before .before .before .before .before .args .work .now) (c .before .before .before .before .before .before .before .before .before .before .before .before .before .before .before .args .answer .now) _ (c .before .before .before .before .before .before .before .before .before .reply-verdict .ensures) _ _ (c .before .before .before .before .before .before .before .enum-told .given .1) (c .before .before .before .before .settle .ensures .0) (c .before .before .before .before .settle .ensures .1))
+    (λ c.
+    let a = c .before .before .before .before .before .before .before .before .before .before .before .before .before .before .before .args in
+    let arm-limits = c .before .before .before .before .before .before .before .before .before .before .before .arm-limits in
+    let settle = c .before .before .before .before .settle in
+    replies-settled (board (arm-limits .result)) (arm-limits .ensures) (a .kept .now) (a .work .now) (a .answer .now) _ (c .before .before .before .before .before .before .before .before .before .reply-verdict .ensures) _ _ (c .before .before .before .before .before .before .before .enum-told .given .1) (settle .ensures .0) (settle .ensures .1))
     (λ c. search needs)
     -- returns-2
-    (λ c. replies-nothing (board (c .before .before .before .before .arm-limits .result)) (c .before .before .before .before .arm-limits .ensures) (c .before .before .before .before .before .before .before .before .args .kept .now) (c .before .before .before .before .before .before .before .before .args .work .now) (c .before .before .before .before .before .before .before .before .args .answer .now) _ (c .before .before .reply-verdict .ensures) _ (c .enum-told2 .given .1)))
+    (λ c.
+    let a = c .before .before .before .before .before .before .before .before .args in
+    let arm-limits = c .before .before .before .before .arm-limits in
+    replies-nothing (board (arm-limits .result)) (arm-limits .ensures) (a .kept .now) (a .work .now) (a .answer .now) _ (c .before .before .reply-verdict .ensures) _ (c .enum-told2 .given .1)))

@@ -17,4 +17,6 @@ tca-reply-spec =
     -- same-length-2
     (λ c. c .before .before .before .before .before .before .reply .kept .1 .0)
     -- returns
-    (λ c. record { refusal = c .before .verdict-number .ensures ∙ ap verdictNumber (c .before .before .before .before .before .before .reply .ensures .verdict); place = c .verdict-place .ensures ∙ ap verdictPlace (c .before .before .before .before .before .before .reply .ensures .verdict); kept-bytes = c .before .before .before .before .before .before .reply .ensures .kept-bytes; work-bytes = c .before .before .before .before .before .before .reply .ensures .work-bytes }))
+    (λ c.
+    let reply = c .before .before .before .before .before .before .reply in
+    record { refusal = c .before .verdict-number .ensures ∙ ap verdictNumber (reply .ensures .verdict); place = c .verdict-place .ensures ∙ ap verdictPlace (reply .ensures .verdict); kept-bytes = reply .ensures .kept-bytes; work-bytes = reply .ensures .work-bytes }))
