@@ -14,9 +14,8 @@ fn main() -> ExitCode {
             return ExitCode::from(2);
         }
     };
-    let mut record = vec![0; tca::RECORD_BYTES];
-    match tca::load(&file, &mut record) {
-        Ok(()) => {
+    match tca::load(&file) {
+        Ok(_) => {
             println!("accepted");
             ExitCode::SUCCESS
         }

@@ -6,7 +6,8 @@ use std::time::Duration;
 use crate::{numbers, Judges};
 use evaluator::rows::{kind, Row};
 use evaluator::table::{file_of, Table};
-use tca::{load, RECORD_BYTES};
+use tca::entries::load;
+use tca::RECORD_BYTES;
 
 /// The library's verdict, if it comes soon.
 fn soon(file: Vec<u8>) -> (u32, u32) {

@@ -8,8 +8,8 @@ mod header;
 mod records;
 
 use evaluator::random::Random;
-use evaluator::Verdict;
-use tca::{load, Refused, RECORD_BYTES};
+use tca::entries::{load, Verdict};
+use tca::RECORD_BYTES;
 
 /// Document 01's first case as a file, byte by byte: if true then str 7 else str 8.
 fn document_file() -> Vec<u8> {
@@ -33,9 +33,9 @@ fn old_bytes(length: usize) -> Vec<u8> {
     bytes
 }
 
-/// The wrapper's outcome as numbers.
-fn numbers(outcome: Result<(), Refused>) -> (u32, u32) {
-    outcome.map_or_else(|refused| (refused.refusal.number(), refused.place), |()| (0, 0))
+/// A verdict as numbers.
+fn numbers(verdict: Verdict) -> (u32, u32) {
+    (verdict.refusal, verdict.place)
 }
 
 /// Two records of the same old content, one lent to the library and one to the evaluator.
@@ -57,8 +57,8 @@ impl Judges {
     /// What both say of a file. Their verdicts and records are equal, and a refusal has changed no byte.
     fn agree(&mut self, file: &[u8], words: impl Fn() -> String) -> (u32, u32) {
         let said = numbers(load(file, &mut self.library));
-        let Verdict { refusal, place } = evaluator::load(file, &mut self.evaluator);
-        assert_eq!(said, (refusal, place), "library and evaluator on {}", words());
+        let wanted = evaluator::load(file, &mut self.evaluator);
+        assert_eq!(said, (wanted.refusal, wanted.place), "library and evaluator on {}", words());
         if said == (0, 0) {
             assert!(self.library == self.evaluator, "the records of {}", words());
             self.library.copy_from_slice(&self.old);

@@ -1,7 +1,8 @@
 //! Records of every length, old content and address.
 
 use crate::{document_file, numbers, old_bytes, Judges};
-use tca::{load, RECORD_BYTES};
+use tca::entries::load;
+use tca::RECORD_BYTES;
 
 #[test]
 fn a_record_of_another_length_is_refused_before_all_else() {
@@ -21,10 +22,10 @@ fn an_accepted_load_writes_every_byte() {
     assert_eq!(evaluator::load(&file, &mut wanted).refusal, 0);
     // Each old byte differs from the one to be written.
     let mut record: Vec<u8> = wanted.iter().map(|byte| !byte).collect();
-    assert_eq!(load(&file, &mut record), Ok(()));
+    assert_eq!(numbers(load(&file, &mut record)), (0, 0));
     assert!(record == wanted);
     // What was loaded before does not matter either.
-    assert_eq!(load(&file, &mut record), Ok(()));
+    assert_eq!(numbers(load(&file, &mut record)), (0, 0));
     assert!(record == wanted);
 }
 
@@ -40,7 +41,7 @@ fn nothing_outside_the_record_is_touched() {
         let mut shelf = old.clone();
         let mut moved_file = old_bytes(at);
         moved_file.extend(&file);
-        assert_eq!(load(&moved_file[at..], &mut shelf[at..at + RECORD_BYTES]), Ok(()));
+        assert_eq!(numbers(load(&moved_file[at..], &mut shelf[at..at + RECORD_BYTES])), (0, 0));
         assert!(shelf[at..at + RECORD_BYTES] == wanted, "the record at {at}");
         assert!(
             shelf[..at] == old[..at] && shelf[at + RECORD_BYTES..] == old[at + RECORD_BYTES..],
