@@ -6,6 +6,7 @@ use crate::entries::{Outcome, Verdict};
 use crate::layout::*;
 use crate::machine::Machine;
 use crate::make::files::{damaged, COUNTS};
+use crate::make::kept::Kept;
 use crate::make::programs::{program, tower, Program, Wish};
 use crate::make::sessions::{Act, Session};
 use crate::random::Random;
@@ -69,15 +70,15 @@ fn act_words(act: &Act) -> String {
     }
 }
 
-/// Bytes in hex; sixteen or more zeros in a row are written `00*count`.
+/// Bytes in hex; sixteen or more equal ones in a row are written once with their count, as ` 00*count `.
 pub fn hex(bytes: &[u8]) -> String {
     let mut text = String::new();
     let mut at = 0;
     while at < bytes.len() {
-        let zeros = bytes[at..].iter().take_while(|&&byte| byte == 0).count();
-        if zeros >= 16 {
-            let _ = write!(text, " 00*{zeros} ");
-            at += zeros;
+        let equal = bytes[at..].iter().take_while(|&&byte| byte == bytes[at]).count();
+        if equal >= 16 {
+            let _ = write!(text, " {:02x}*{equal} ", bytes[at]);
+            at += equal;
         } else {
             let _ = write!(text, "{:02x}", bytes[at]);
             at += 1;
@@ -112,19 +113,13 @@ fn first_difference(left: &Lent, right: &Lent) -> Option<(&'static str, usize, O
     })
 }
 
-/// Gives one session to two machines. Runs and replies are left out if either machine lacks them.
+/// Gives one session to two machines.
 pub fn compare_session(seed: u64, number: u64, machines: [&mut dyn Machine; 2]) -> Result<usize, Box<Difference>> {
     let [left, right] = machines;
-    let has_run = left.has_run() && right.has_run();
-    let has_reply = left.has_reply() && right.has_reply();
     let mut session = Session::new(seed, number);
     let mut lents = [Lent { record: vec![], work: vec![] }, Lent { record: vec![], work: vec![] }];
     let mut acts = Vec::new();
     while let Some(act) = session.next(&lents[0].record, &lents[0].work) {
-        let left_out = matches!(act, Act::Run(_)) && !has_run || matches!(act, Act::Reply(_)) && !has_reply;
-        if left_out {
-            continue;
-        }
         let given = [perform(left, &act, &mut lents[0]), perform(right, &act, &mut lents[1])];
         acts.push(act);
         if given[0] != given[1] || lents[0] != lents[1] {
@@ -301,4 +296,48 @@ pub fn compare_load(
         given,
         byte: first_difference(&lents[0], &lents[1]),
     }))
+}
+
+/// The budget of a run on a changed record.
+const CHANGED_BUDGET: u32 = 7;
+
+/// A kept record with one byte changed, lent to two machines for a run and, afresh, for a reply. Gives how many of the two
+/// calls were refused.
+pub fn compare_changed(
+    kept: &Kept,
+    at: usize,
+    value: u8,
+    lents: &mut [Lent; 2],
+    machines: &mut [&mut dyn Machine; 2],
+) -> Result<u64, Box<Difference>> {
+    let mut refused = 0;
+    for act in [Act::Run(CHANGED_BUDGET), Act::Reply(kept.reply.clone())] {
+        for lent in lents.iter_mut() {
+            lent.record.copy_from_slice(&kept.record);
+            lent.record[at] = value;
+            lent.work.fill(OLD_WORK);
+        }
+        let [left, right] = &mut *machines;
+        let given = [perform(&mut **left, &act, &mut lents[0]), perform(&mut **right, &act, &mut lents[1])];
+        if given[0] != given[1] || lents[0] != lents[1] {
+            let mut changed = kept.record.clone();
+            changed[at] = value;
+            return Err(Box::new(Difference {
+                repeat: format!("compare-records --record {} --from {at} --count 1 --all", kept.name),
+                names: [left.name(), right.name()],
+                acts: vec![Act::SetRecord(changed), Act::SetWork(vec![OLD_WORK; WORK_BYTES]), act],
+                given,
+                byte: first_difference(&lents[0], &lents[1]),
+            }));
+        }
+        refused += u64::from(is_refusal(given[0]));
+    }
+    Ok(refused)
+}
+
+/// What the work buffer holds before a call on a changed record.
+const OLD_WORK: u8 = 0x5A;
+
+fn is_refusal(given: Given) -> bool {
+    matches!(given, Given::Verdict(Verdict { refusal: 1.., .. }) | Given::Outcome(Outcome::Refused(_)))
 }

@@ -8,12 +8,6 @@ use crate::fault::{Bend, Fault};
 pub trait Machine {
     fn name(&self) -> String;
 
-    /// Whether run may be called.
-    fn has_run(&self) -> bool;
-
-    /// Whether reply may be called.
-    fn has_reply(&self) -> bool;
-
     fn load(&mut self, file: &[u8], record: &mut [u8]) -> Verdict;
 
     fn run(&mut self, record: &mut [u8], work: &mut [u8], budget: u32) -> Outcome;
@@ -26,6 +20,9 @@ pub trait Machine {
 pub struct Evaluator {
     bend: Bend,
 }
+
+/// More steps than any run makes that ends.
+const BENT_BUDGET: u32 = 10_000;
 
 impl Evaluator {
     pub const TRUE: Evaluator = Evaluator { bend: Bend::NONE };
@@ -43,20 +40,14 @@ impl Machine for Evaluator {
         }
     }
 
-    fn has_run(&self) -> bool {
-        true
-    }
-
-    fn has_reply(&self) -> bool {
-        true
-    }
-
     fn load(&mut self, file: &[u8], record: &mut [u8]) -> Verdict {
         entries::load(file, record, self.bend)
     }
 
     fn run(&mut self, record: &mut [u8], work: &mut [u8], budget: u32) -> Outcome {
         let bend = self.bend;
+        // A bent copy may go on for ever where the true one comes to an end.
+        let budget = if bend.fault().is_some() { budget.min(BENT_BUDGET) } else { budget };
         on_deep_stack(|| entries::run(record, work, budget, bend))
     }
 
@@ -66,10 +57,11 @@ impl Machine for Evaluator {
     }
 }
 
-/// The proved library, through its C entries. It has load only; run and reply join here when it has them.
+/// The proved library, through its C entries.
 #[cfg(feature = "library")]
 pub mod library {
     use super::*;
+    use crate::words::ANSWERS;
 
     #[repr(C)]
     struct CVerdict {
@@ -77,37 +69,69 @@ pub mod library {
         place: u32,
     }
 
+    #[repr(C)]
+    struct CRunAnswer {
+        refusal: u32,
+        answer: u32,
+        sent: u32,
+        steps: u32,
+    }
+
     extern "C" {
         fn tca_load(file_ptr: *const u8, file_len: usize, record_ptr: *mut u8, record_len: usize) -> CVerdict;
+
+        fn tca_run(
+            record_ptr: *mut u8,
+            record_len: usize,
+            work_ptr: *mut u8,
+            work_len: usize,
+            budget: u32,
+        ) -> CRunAnswer;
+
+        fn tca_reply(
+            record_ptr: *mut u8,
+            record_len: usize,
+            work_ptr: *mut u8,
+            work_len: usize,
+            reply_ptr: *const u8,
+            reply_len: usize,
+        ) -> CVerdict;
     }
 
     pub struct Library;
 
+    // In each entry's call: the pointers come from slices of the stated lengths that stay lent for the whole call, and
+    // slices lent to be written share no byte.
     impl Machine for Library {
         fn name(&self) -> String {
             "library".to_string()
         }
 
-        fn has_run(&self) -> bool {
-            false
-        }
-
-        fn has_reply(&self) -> bool {
-            false
-        }
-
         fn load(&mut self, file: &[u8], record: &mut [u8]) -> Verdict {
-            // SAFETY: both pointers come from slices of the stated lengths that stay lent for the whole call.
+            // SAFETY: as said above.
             let verdict = unsafe { tca_load(file.as_ptr(), file.len(), record.as_mut_ptr(), record.len()) };
             Verdict { refusal: verdict.refusal, place: verdict.place }
         }
 
-        fn run(&mut self, _record: &mut [u8], _work: &mut [u8], _budget: u32) -> Outcome {
-            unreachable!("the driver asks has_run first")
+        fn run(&mut self, record: &mut [u8], work: &mut [u8], budget: u32) -> Outcome {
+            // SAFETY: as said above.
+            let given = unsafe { tca_run(record.as_mut_ptr(), record.len(), work.as_mut_ptr(), work.len(), budget) };
+            let CRunAnswer { refusal, answer: number, sent, steps } = given;
+            let known = ANSWERS.iter().find(|(answer, _)| *answer as u32 == number);
+            match (refusal, known) {
+                (0, Some(&(answer, _))) => Outcome::Ran { answer, sent, steps },
+                (1.., _) if (number, sent, steps) == (0, 0, 0) => Outcome::Refused(Verdict { refusal, place: 0 }),
+                // What no run gives differs from all that one gives.
+                _ => Outcome::Refused(Verdict { refusal, place: u32::MAX }),
+            }
         }
 
-        fn reply(&mut self, _record: &mut [u8], _work: &mut [u8], _reply: &[u8]) -> Verdict {
-            unreachable!("the driver asks has_reply first")
+        fn reply(&mut self, record: &mut [u8], work: &mut [u8], reply: &[u8]) -> Verdict {
+            // SAFETY: as said above.
+            let verdict = unsafe {
+                tca_reply(record.as_mut_ptr(), record.len(), work.as_mut_ptr(), work.len(), reply.as_ptr(), reply.len())
+            };
+            Verdict { refusal: verdict.refusal, place: verdict.place }
         }
     }
 }

@@ -5,12 +5,15 @@ use std::process::ExitCode;
 use std::time::{Duration, Instant};
 
 use evaluator::bench_runner::bench_line;
-use evaluator::compare::{compare_load, compare_session, fixed_loads, group_acts, tower_loads, Lent, LOADS_A_GROUP};
+use evaluator::compare::{
+    compare_changed, compare_load, compare_session, fixed_loads, group_acts, tower_loads, Lent, LOADS_A_GROUP,
+};
 use evaluator::deep::on_deep_stack;
 use evaluator::fault::Fault;
 use evaluator::faults::look_for;
-use evaluator::layout::RECORD_BYTES;
+use evaluator::layout::{RECORD_BYTES, WORK_BYTES};
 use evaluator::machine::{Evaluator, Machine};
+use evaluator::make::kept::{other_values, three_records, Kept};
 use evaluator::make::sessions::Act;
 use evaluator::show::{show, Taken};
 
@@ -18,6 +21,7 @@ const HELP: &str = "\
 evaluator compare-loads    [--count N] [--seconds S] [--seed S] [--group G] [--against M] [--announce]
                            [--skip-fixed] [--skip-towers]
 evaluator compare-sessions [--count N] [--seconds S] [--seed S] [--from N] [--against M] [--announce]
+evaluator compare-records  [--all] [--record early|middle|late] [--from BYTE] [--count BYTES] [--against M]
 evaluator faults           [--count N] [--seed S]
 evaluator frequencies      [--sessions N] [--groups N] [--seed S]
 evaluator show FILE        [--reply | --call] [--types RECORD]
@@ -49,6 +53,7 @@ fn command(words: &[String], out: &mut dyn Write) -> io::Result<ExitCode> {
     match name.as_str() {
         "compare-loads" => compare_loads(&options, out),
         "compare-sessions" => compare_sessions(&options, out),
+        "compare-records" => compare_records(&options, out),
         "faults" => show_faults(&options, out),
         "frequencies" => {
             let seed = options.number("--seed")?.unwrap_or(1);
@@ -89,6 +94,7 @@ impl Options<'_> {
                 "--skip-towers",
             ],
             "compare-sessions" => &["--count", "--seconds", "--seed", "--from", "--against", "--announce"],
+            "compare-records" => &["--all", "--record", "--from", "--count", "--against"],
             "faults" => &["--count", "--seed"],
             "frequencies" => &["--sessions", "--groups", "--seed"],
             "show" => &["--reply", "--call", "--types"],
@@ -145,6 +151,11 @@ impl Options<'_> {
         let count = self.number("--count")?;
         let most = count.unwrap_or(if seconds.is_some() { u64::MAX } else { default });
         Ok(End { start: Instant::now(), most, time: seconds.map(Duration::from_secs), shown: Duration::ZERO })
+    }
+
+    /// For what has an end of its own.
+    fn end_never(&self) -> End {
+        End { start: Instant::now(), most: u64::MAX, time: None, shown: Duration::ZERO }
     }
 }
 
@@ -258,9 +269,48 @@ fn compare_sessions(options: &Options, out: &mut dyn Write) -> io::Result<ExitCo
         out,
         "{done} sessions, {calls} acts, no difference between evaluator and {name}; seed {seed}, {seconds:.1} s"
     )?;
-    if !(other.has_run() && other.has_reply()) {
-        writeln!(out, "{name} was not asked for what it lacks: run {}, reply {}", other.has_run(), other.has_reply())?;
+    Ok(ExitCode::SUCCESS)
+}
+
+/// Three kept records, every byte of each changed: to some other values, or to all.
+fn compare_records(options: &Options, out: &mut dyn Write) -> io::Result<ExitCode> {
+    let mut other = options.machine()?;
+    let mut own = Evaluator::TRUE;
+    let name = other.name();
+    let mut machines: [&mut dyn Machine; 2] = [&mut own, &mut *other];
+    let all = options.has("--all");
+    let first = options.number("--from")?.unwrap_or(0) as usize;
+    let count = options.number("--count")?.unwrap_or(RECORD_BYTES as u64) as usize;
+    let last = first.saturating_add(count).min(RECORD_BYTES);
+    let wanted = options.word("--record");
+    let records: Vec<Kept> = three_records().into_iter().filter(|kept| wanted.is_none_or(|w| w == kept.name)).collect();
+    if records.is_empty() || first >= last {
+        return Err(bad_input("there is no such record, or no such byte".to_string()));
     }
+    let mut end = options.end_never();
+    let lent = || Lent { record: vec![0; RECORD_BYTES], work: vec![0; WORK_BYTES] };
+    let mut lents = [lent(), lent()];
+    let (mut calls, mut refused) = (0, 0);
+    for kept in &records {
+        for at in first..last {
+            for value in other_values(kept.record[at], all) {
+                match compare_changed(kept, at, value, &mut lents, &mut machines) {
+                    Ok(refusals) => refused += refusals,
+                    Err(difference) => return found(out, &difference),
+                }
+                calls += 2;
+            }
+            end.reached(calls, &format!("calls, at byte {at} of the {} record,", kept.name));
+        }
+    }
+    let seconds = end.start.elapsed().as_secs_f64();
+    let records = records.len();
+    writeln!(
+        out,
+        "{records} records, bytes {first} to {}: {calls} runs and replies, {refused} refused, no difference between evaluator and {name}; \
+         {seconds:.1} s",
+        last - 1
+    )?;
     Ok(ExitCode::SUCCESS)
 }
 

@@ -1,5 +1,6 @@
 //! Sessions: sequences of calls in which loads, runs, replies and damage follow each other as in a busy stall.
 
+use crate::entries::{Answer, Outcome};
 use crate::layout::*;
 use crate::make::files::damaged;
 use crate::make::programs::{program, Program, Wish};
@@ -26,6 +27,7 @@ pub struct Session {
     left: usize,
     program: Option<Program>,
     waiting: Vec<Act>,
+    last_reply: Option<Vec<u8>>,
 }
 
 impl Session {
@@ -66,8 +68,8 @@ impl Session {
             waiting.push(Act::SetRecord(sound(&mut random)));
         }
         waiting.reverse();
-        let left = random.between(1, 7);
-        Session { random, left, program: made, waiting }
+        let left = if random.one_in(16) { random.between(8, 40) } else { random.between(1, 7) };
+        Session { random, left, program: made, waiting, last_reply: None }
     }
 
     /// The next act, seen from the buffers as the machines have left them.
@@ -92,8 +94,10 @@ impl Session {
                 Some(program) => Act::Load(damaged(random, program)),
                 None => Act::Run(0),
             },
-            3..=8 if open => Act::Reply(reply_for(random, record)),
-            9 => Act::Reply(reply_for(random, record)),
+            3..=8 if open => self.reply(record),
+            9 => self.reply(record),
+            // The same reply again: if it was accepted, its number is closed now.
+            11 if self.last_reply.is_some() => Act::Reply(self.last_reply.take().unwrap_or_default()),
             10 => {
                 let mut work = work.to_vec();
                 if !work.is_empty() {
@@ -102,8 +106,15 @@ impl Session {
                 }
                 Act::SetWork(work)
             }
-            _ => Act::Run(budget(random)),
+            _ => Act::Run(budget(random, record)),
         })
+    }
+
+    /// A reply to the record as it stands, which may come again.
+    fn reply(&mut self, record: &[u8]) -> Act {
+        let reply = reply_for(&mut self.random, record);
+        self.last_reply = Some(reply.clone());
+        Act::Reply(reply)
     }
 
     /// Another program or record, once there is nothing left to do.
@@ -134,7 +145,7 @@ impl Session {
         self.waiting.push(Act::SetRecord(record.to_vec()));
         let call = match self.random.below(3) {
             0 => Act::Reply(reply_for(&mut self.random, record)),
-            _ => Act::Run(budget(&mut self.random)),
+            _ => Act::Run(budget(&mut self.random, &bad)),
         };
         self.waiting.push(call);
         Act::SetRecord(bad)
@@ -150,7 +161,7 @@ impl Session {
                 Some(program) => Act::Load(program.file()),
                 None => Act::Run(1),
             },
-            _ => Act::Run(budget(random)),
+            _ => Act::Run(budget(random, record)),
         };
         if random.one_in(2) {
             let mut changed = record.to_vec();
@@ -183,13 +194,25 @@ pub fn wish(random: &mut Random) -> Wish {
     Wish { rows, most: MAX_PROGRAM_ROWS, futures: false }
 }
 
-fn budget(random: &mut Random) -> u32 {
-    match random.below(24) {
+/// Budgets small and large; the largest of all where the run ends.
+fn budget(random: &mut Random, record: &[u8]) -> u32 {
+    match random.below(28) {
         0..=2 => 0,
         3..=8 => 1,
         9..=12 => random.between(2, 5) as u32,
-        13..=21 => random.between(5, 30) as u32,
-        22 => 100,
-        _ => 200,
+        13..=15 => 7,
+        16..=23 => random.between(5, 30) as u32,
+        24 => 100,
+        25 => 200,
+        26 if random.one_in(3) => 1_000,
+        27 if ends(record) => u32::MAX,
+        _ => 20,
     }
+}
+
+/// Whether a run comes to another end than its budget's, soon.
+fn ends(record: &[u8]) -> bool {
+    const SOON: u32 = 300;
+    let outcome = crate::run(&mut record.to_vec(), &mut vec![0; WORK_BYTES], SOON);
+    !matches!(outcome, Outcome::Ran { answer: Answer::Budget, .. })
 }
