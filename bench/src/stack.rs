@@ -1,10 +1,8 @@
-//! How much stack a load uses. The load runs on a thread whose stack is memory of our own, painted with one byte; the
-//! lowest byte that has changed when the load returns tells how far down it went.
+//! How much stack a call uses. It is made on a thread whose stack is memory of our own, painted with one byte; the lowest
+//! byte that has changed when the call returns tells how far down it went.
 
 use std::ffi::{c_int, c_ulong, c_void};
 use std::ptr::null_mut;
-
-use tca::RECORD_BYTES;
 
 const STACK_BYTES: usize = 8 << 20;
 const PAINT: u8 = 0xA5;
@@ -30,17 +28,16 @@ extern "C" {
 
 /// What the thread is given, and what it finds.
 struct Task<'a> {
-    file: &'a [u8],
-    record: Vec<u8>,
+    call: &'a mut (dyn FnMut() + Send),
     lowest: *const u8,
     used: usize,
 }
 
-/// The bytes of stack that the library uses on a load, its wrapper included.
-pub fn used_by_load(file: &[u8]) -> usize {
+/// The bytes of stack that a call uses. It must not panic.
+pub fn used_by(mut call: impl FnMut() + Send) -> usize {
     let mut memory = vec![PAINT; STACK_BYTES + PAGE];
     let lowest = memory.as_mut_ptr().wrapping_add(memory.as_ptr().align_offset(PAGE));
-    let mut task = Task { file, record: vec![0; RECORD_BYTES], lowest, used: 0 };
+    let mut task = Task { call: &mut call, lowest, used: 0 };
     let mut attributes = Attributes([0; 256]);
     let mut thread = 0;
     // SAFETY: the declarations are those of POSIX threads. The stack lies within `memory`, begins at a page and is used
@@ -52,16 +49,16 @@ pub fn used_by_load(file: &[u8]) -> usize {
         assert_eq!(pthread_join(thread, null_mut()), 0);
         assert_eq!(pthread_attr_destroy(&mut attributes), 0);
     }
-    assert!(task.used < STACK_BYTES / 2, "a load went through the painted stack");
+    assert!(task.used < STACK_BYTES / 2, "a call went through the painted stack");
     task.used
 }
 
 extern "C" fn measure(given: *mut c_void) -> *mut c_void {
-    // SAFETY: this is the task that `used_by_load` lends to this thread alone.
+    // SAFETY: this is the task that `used_by` lends to this thread alone.
     let task = unsafe { &mut *given.cast::<Task>() };
     let mark = 0u8;
     let start = std::hint::black_box(&raw const mark);
-    let _ = std::hint::black_box(tca::load(task.file, &mut task.record));
+    (task.call)();
     // SAFETY: the bytes from `lowest` to the mark are this thread's stack, within memory that stays allocated; none of
     // them is in use now but those of this function and of what it calls, far above the first that has changed.
     let unchanged = (0..STACK_BYTES).take_while(|&at| unsafe { task.lowest.add(at).read_volatile() } == PAINT).count();

@@ -2,6 +2,7 @@
 
 pub mod files;
 pub mod kept;
+pub mod nests;
 pub mod programs;
 pub mod records;
 pub mod replies;

@@ -32,7 +32,20 @@ fn the_c_header_has_the_same_limits() {
     assert_eq!(header["TCA_RECORD_BYTES"], tca::RECORD_BYTES);
     assert_eq!(header["TCA_MAX_RECORD_ROWS"], tca::MAX_RECORD_ROWS);
     assert_eq!(header["TCA_MAX_OPEN_CALLS"], tca::MAX_OPEN_CALLS);
+    assert_eq!(header["TCA_WORK_BYTES"], tca::WORK_BYTES);
+    assert_eq!(header["TCA_MAX_REPLY_ROWS"], tca::MAX_REPLY_ROWS);
     assert_eq!(tca::MAX_FILE_BYTES, 17_418);
+}
+
+#[test]
+fn the_c_header_has_the_same_answers() {
+    use tca::{Answer, Call};
+    let header = header_numbers();
+    let call = Call { number: 1, tool: 1, result: 0, rows: vec![] };
+    let answers = [Answer::Sent(call), Answer::Held, Answer::Budget, Answer::Room, Answer::Numbers];
+    for answer in [Answer::Value, Answer::Waiting].into_iter().chain(answers) {
+        assert_eq!(header[format!("TCA_{}", answer.name()).as_str()], answer.number() as usize);
+    }
 }
 
 #[test]
@@ -63,4 +76,8 @@ fn the_evaluator_has_the_same_limits() {
     assert_eq!(layout::RECORD_BYTES, tca::RECORD_BYTES);
     assert_eq!(layout::MAX_ROWS, tca::MAX_RECORD_ROWS);
     assert_eq!(layout::MAX_OPEN, tca::MAX_OPEN_CALLS);
+    assert_eq!(layout::WORK_BYTES, tca::WORK_BYTES);
+    assert_eq!(layout::MAX_REPLY_ROWS, tca::MAX_REPLY_ROWS);
+    assert_eq!(layout::REPLY_HEAD, header_numbers()["TCA_REPLY_HEAD_BYTES"]);
+    assert_eq!(layout::CALL_HEAD, header_numbers()["TCA_CALL_HEAD_BYTES"]);
 }
