@@ -43,6 +43,8 @@ extern "C" {
 #define TCA_RECORD_BYTES 26132
 #define TCA_MAX_RECORD_ROWS 2048 /* rows that a term may grow to */
 #define TCA_MAX_OPEN_CALLS 64    /* calls sent and not yet replied to */
+#define TCA_RECORD_ROW_COUNT 8   /* where a record has its row count, u16 */
+#define TCA_RECORD_ROWS 9748     /* where a record has its rows */
 
 /* A work buffer, lent to tca_run and tca_reply: always exactly this long. */
 #define TCA_WORK_BYTES 16400

@@ -78,6 +78,8 @@ fn the_evaluator_has_the_same_limits() {
     assert_eq!(layout::MAX_OPEN, tca::MAX_OPEN_CALLS);
     assert_eq!(layout::WORK_BYTES, tca::WORK_BYTES);
     assert_eq!(layout::MAX_REPLY_ROWS, tca::MAX_REPLY_ROWS);
+    assert_eq!(layout::RECORD_ROWS, header_numbers()["TCA_RECORD_ROWS"]);
+    assert_eq!(layout::RECORD_ROW_COUNT, header_numbers()["TCA_RECORD_ROW_COUNT"]);
     assert_eq!(layout::REPLY_HEAD, header_numbers()["TCA_REPLY_HEAD_BYTES"]);
     assert_eq!(layout::CALL_HEAD, header_numbers()["TCA_CALL_HEAD_BYTES"]);
 }
