@@ -1,103 +1,160 @@
-//! Measures loads by the proved library beside the independent evaluator's, at half and at full size, and prints one
-//! table.
+//! Measures loads, runs and replies by the proved library beside the independent evaluator's and beside the limit, at half
+//! and at full size, and prints a table of each. Ends with 1 if a target is missed.
 
 mod cases;
+mod picture;
+mod players;
 mod stack;
 mod timing;
 
 use std::process::ExitCode;
 
-use cases::{all_cases, Case};
-use evaluator::random::Random;
-use tca::RECORD_BYTES;
-use timing::{median_times, REPETITIONS};
+use cases::{Case, Doubled, Job};
+use players::{evaluator as by_evaluator, library, Lent, Limit};
+use timing::{medians, CALLS};
 
 /// The library's time over the evaluator's, at full size.
 const RATIO_TARGET: f64 = 1.0;
 /// The library's time at full size over that at half size.
 const GROWTH_TARGET: f64 = 2.3;
-/// The stack used by one load, in bytes.
+/// The stack used by one call, in bytes.
 const STACK_TARGET: usize = 64 * 1024;
 
 fn main() -> ExitCode {
-    let cases = all_cases();
-    for case in &cases {
-        for file in [&case.half, &case.full] {
-            if let Err(difference) = agree(file) {
-                eprintln!("{}: {difference}", case.name);
-                return ExitCode::FAILURE;
+    let words: Vec<String> = std::env::args().skip(1).collect();
+    let picture = match &words[..] {
+        [] => None,
+        [flag, file] if flag == "--picture" => Some(file.clone()),
+        _ => {
+            eprintln!("usage: bench [--picture FILE]");
+            return ExitCode::from(2);
+        }
+    };
+    match evaluator::deep::on_deep_stack(|| measure(picture.as_deref())) {
+        Ok(missed) if missed.is_empty() => {
+            println!("All targets are met.");
+            ExitCode::SUCCESS
+        }
+        Ok(missed) => {
+            println!("TARGETS MISSED: {}.", missed.len());
+            for name in missed {
+                println!("  {name}");
             }
+            ExitCode::FAILURE
+        }
+        Err(fault) => {
+            eprintln!("{fault}");
+            ExitCode::FAILURE
         }
     }
+}
+
+/// Prints the tables and draws the picture, if one is wanted; gives what misses a target.
+fn measure(picture: Option<&str>) -> Result<Vec<String>, String> {
     println!(
-        "Loads by the library and by the independent evaluator, both built for release; microseconds a load, medians of\n\
-         {REPETITIONS} repetitions, warm, taking turns. The record buffer is not cleared between loads. Verdict and bytes\n\
-         of every load were compared first and are equal. `half` is the library's time at half the size, `growth` what\n\
-         doubling it costs. The stack is memory of our own, painted before the load and looked through after it.\n\
-         Targets: ratio at most {RATIO_TARGET:.1}, growth by rows at most {GROWTH_TARGET}, stack at most {STACK_TARGET} bytes.\n"
+        "The library, the independent evaluator and the limit, all built for release; microseconds a call, medians of {CALLS} calls\n\
+         (fewer where they take long), each timed alone on buffers made ready before, taking turns. Numbers and bytes of every\n\
+         call were compared first and are equal. `limit` is one read of all that is lent and one copy of what changes. `growth` is\n\
+         what doubling costs: the rows, the types, the open calls, the rows before the place of a step or those behind it; where\n\
+         a run makes more steps for it, each step. The stack is memory of our own, painted before the call and looked through\n\
+         after it. Targets: ratio to the evaluator at most {RATIO_TARGET:.1}; growth at most {GROWTH_TARGET}, of all but types; stack at most\n\
+         {STACK_TARGET} bytes."
     );
-    println!(
-        "{:<40} {:>7} {:>4} {:>5} {:>8} {:>9} {:>11} {:>8} {:>12} {:>12}",
-        "load of", "verdict", "rows", "types", "library", "evaluator", "ratio", "half", "growth", "stack"
-    );
-    let mut missed = 0;
-    let mut deepest = (0, "");
-    for case in &cases {
-        let line = measured(case);
-        println!("{}", line.text);
-        missed += line.missed;
-        if line.stack > deepest.0 {
-            deepest = (line.stack, case.name);
+    let mut missed = Vec::new();
+    let mut deepest = Vec::new();
+    for (entry, cases) in [("load", cases::loads()), ("run", cases::runs()), ("reply", cases::replies())] {
+        println!(
+            "\n| {:<44} | gave | rows | types | library | evaluator | ratio | limit | of limit | growth | by | stack |",
+            format!("{entry} of")
+        );
+        println!("|---|---|---:|---:|---:|---:|---:|---:|---:|---:|---|---:|");
+        let mut most = 0;
+        for case in &cases {
+            let line = measured(entry, case)?;
+            println!("{}", line.text);
+            missed.extend(line.missed);
+            most = most.max(line.stack);
         }
+        deepest.push(format!("{entry} {most}"));
     }
-    println!("\nMost stack: {} bytes, on {}; target {STACK_TARGET}.", deepest.0, deepest.1);
-    println!("{}", if missed == 0 { "All targets are met.".to_string() } else { format!("TARGETS MISSED: {missed}.") });
-    ExitCode::SUCCESS
-}
-
-/// Both machines' verdicts and records on a file, over the same old content, must be equal.
-fn agree(file: &[u8]) -> Result<(), String> {
-    let mut record = vec![0; RECORD_BYTES];
-    Random::new(26_132).fill(&mut record);
-    let mut other = record.clone();
-    let said = verdict(file, &mut record);
-    let wanted = evaluator::load(file, &mut other);
-    if said != (wanted.refusal, wanted.place) {
-        return Err(format!("the library says {said:?}, the evaluator {wanted:?}"));
+    println!("\nMost stack in bytes: {}.", deepest.join(", "));
+    if let Some(file) = picture {
+        let drawn = picture::drawn()?;
+        std::fs::write(file, drawn).map_err(|error| format!("{file}: {error}"))?;
+        println!("Drew {file}.");
     }
-    let differing = record.iter().zip(&other).position(|(byte, other)| byte != other);
-    differing.map_or(Ok(()), |at| Err(format!("the records differ at byte {at}")))
+    Ok(missed)
 }
 
-/// The library's verdict in numbers.
-fn verdict(file: &[u8], record: &mut [u8]) -> (u32, u32) {
-    tca::load(file, record).map_or_else(|refused| (refused.refusal.number(), refused.place), |()| (0, 0))
-}
-
-/// A line of the table, the targets it misses and the stack it tells.
+/// A line of the table, the targets that it misses and the stack that it tells.
 struct Line {
     text: String,
-    missed: usize,
+    missed: Vec<String>,
     stack: usize,
 }
 
-fn measured(case: &Case) -> Line {
-    let [half, full, evaluator] = median_times(case);
-    let (ratio, growth) = (full / evaluator, full / half);
-    let stack = stack::used_by_load(&case.full);
-    // Growth by types is shown, but the target speaks of rows.
-    let misses = [ratio > RATIO_TARGET, case.grows_by_rows && growth > GROWTH_TARGET, stack > STACK_TARGET];
-    let mark = |which: usize| if misses[which] { " MISSED" } else { "" };
-    let (refusal, place) = verdict(&case.full, &mut vec![0; RECORD_BYTES]);
-    let said = if refusal == 0 { "loads".to_string() } else { format!("{refusal}, {place}") };
-    let (types, rows) = cases::counts(&case.full);
-    let of = if case.grows_by_rows { "" } else { " (types)" };
+/// What the library gives for a job, if the evaluator gives the same and leaves the same bytes.
+fn agreed(job: &Job) -> Result<players::Given, String> {
+    let [mut left, mut right] = [Lent::new(), Lent::new()];
+    left.prepare(job);
+    right.prepare(job);
+    let [said, wanted] = [library(job, &mut left), by_evaluator(job, &mut right)];
+    if said != wanted || left != right {
+        return Err(format!("the library gives {said:?}, the evaluator {wanted:?}; bytes equal: {}", left == right));
+    }
+    Ok(said)
+}
+
+fn measured(entry: &str, case: &Case) -> Result<Line, String> {
+    let name = &case.name;
+    let given = [&case.half, &case.full].map(|job| agreed(job).map_err(|fault| format!("{entry}, {name}: {fault}")));
+    let [half_given, full_given] = given;
+    let [half_steps, full_steps] = [half_given?, full_given?].map(|given| f64::from(given[4].max(1)));
+    let given = agreed(&case.full)?;
+    let limit = Limit::of(&case.full);
+    let play_limit = |job: &Job, lent: &mut Lent| limit.play(job, lent);
+    let times = medians(&[
+        (&library, &case.half),
+        (&library, &case.full),
+        (&by_evaluator, &case.full),
+        (&play_limit, &case.full),
+    ]);
+    let [half, full, evaluator, limit] = times[..] else { unreachable!("four players") };
+    let (ratio, growth) = (full / evaluator, full / full_steps / (half / half_steps));
+    let mut lent = Lent::new();
+    lent.prepare(&case.full);
+    let stack = stack::used_by(|| _ = library(&case.full, &mut lent));
+    let by = match case.doubled {
+        Doubled::Rows => "rows",
+        Doubled::Types => "types",
+        Doubled::OpenCalls => "open calls",
+        Doubled::Before => "rows before",
+        Doubled::Behind => "rows behind",
+    };
+    // Equal types are looked for by comparing each row with all before it: growth by types is shown, and has no target.
+    let grows = case.doubled != Doubled::Types && growth > GROWTH_TARGET;
+    let misses = [ratio > RATIO_TARGET, grows, stack > STACK_TARGET];
+    let bold = |which: usize, text: String| if misses[which] { format!("**{text}**") } else { text };
+    let (types, rows) = case.full.counts();
     let text = format!(
-        "{:<40} {said:>7} {rows:>4} {types:>5} {full:>8.2} {evaluator:>9.2} {:>11} {half:>8.2} {:>12} {:>12}",
-        case.name,
-        format!("{ratio:.2}{}", mark(0)),
-        format!("{growth:.2}{of}{}", mark(1)),
-        format!("{stack}{}", mark(2)),
+        "| {name:<44} | {} | {rows} | {types} | {full:.2} | {evaluator:.2} | {} | {limit:.2} | {:.1} | {} | {by} | {} |",
+        words(entry, given),
+        bold(0, format!("{ratio:.2}")),
+        full / limit,
+        bold(1, format!("{growth:.2}")),
+        bold(2, stack.to_string()),
     );
-    Line { text, missed: misses.into_iter().filter(|&miss| miss).count(), stack }
+    let what = [format!("ratio {ratio:.2}"), format!("growth by {by} {growth:.2}"), format!("stack {stack}")];
+    let missed = (0..3).filter(|&k| misses[k]).map(|k| format!("{entry}, {name}: {}", what[k])).collect();
+    Ok(Line { text, missed, stack })
+}
+
+/// What a call gave, in short.
+fn words(entry: &str, given: players::Given) -> String {
+    const ANSWERS: [&str; 7] = ["VALUE", "WAITING", "SENT", "HELD", "BUDGET", "ROOM", "NUMBERS"];
+    match given {
+        [0, _, answer, _, steps] if entry == "run" => format!("{} after {steps}", ANSWERS[answer as usize]),
+        [0, ..] => "accepted".to_string(),
+        [refusal, place, ..] => format!("{refusal}, {place}"),
+    }
 }

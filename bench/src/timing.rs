@@ -1,67 +1,59 @@
-//! The time of one load: medians of many repetitions, each a batch of loads long enough for the clock.
+//! The time of one call: medians of many, each timed alone on buffers made ready before, those who make them taking turns.
 
-use std::hint::black_box;
 use std::time::Instant;
 
-use crate::cases::Case;
-use tca::RECORD_BYTES;
+use crate::cases::Job;
+use crate::players::{Given, Lent};
 
-/// How many batches the median is taken of; odd, so that there is a middle one.
-pub const REPETITIONS: usize = 101;
+/// How many calls the median is taken of, unless they take long.
+pub const CALLS: usize = 201;
+/// Calls that one makes before it is the next one's turn; the first of a turn warms up and is not counted.
+const TURN: usize = 8;
+/// Where calls take long, fewer are made.
+const MOST_SECONDS: f64 = 1.5;
+const FEWEST_CALLS: usize = 7;
+/// A call of that length is a turn of its own, and needs no warming up.
+const LONG_MICROSECONDS: f64 = 10_000.0;
 
-/// About how long a batch takes.
-const BATCH_MICROSECONDS: f64 = 200.0;
+/// Who makes the call.
+pub type Player<'a> = &'a dyn Fn(&Job, &mut Lent) -> Given;
 
-/// A load into a record that keeps what the load before left in it.
-struct Loader<'a> {
-    load: &'a dyn Fn(&[u8], &mut [u8]),
-    file: &'a [u8],
-    record: Vec<u8>,
-    batch: usize,
-    times: Vec<f64>,
+/// Median microseconds of each player on its job.
+pub fn medians(players: &[(Player, &Job)]) -> Vec<f64> {
+    let clock = clock_microseconds();
+    let mut lent = Lent::new();
+    let mut times: Vec<Vec<f64>> = vec![Vec::new(); players.len()];
+    let start = Instant::now();
+    let enough = |times: &[Vec<f64>]| {
+        let calls = times.iter().map(Vec::len).min().unwrap_or(CALLS);
+        calls >= CALLS || calls >= FEWEST_CALLS && start.elapsed().as_secs_f64() > MOST_SECONDS
+    };
+    while !enough(&times) {
+        for ((play, job), times) in players.iter().zip(&mut times) {
+            for call in 0..=TURN {
+                lent.prepare(job);
+                let start = Instant::now();
+                play(job, &mut lent);
+                let time = start.elapsed().as_secs_f64() * 1e6;
+                let long = time > LONG_MICROSECONDS;
+                if call > 0 || long {
+                    times.push((time - clock).max(0.0));
+                }
+                if long {
+                    break;
+                }
+            }
+        }
+    }
+    times.into_iter().map(median).collect()
 }
 
-impl<'a> Loader<'a> {
-    /// A warm loader whose batches are of the right length.
-    fn new(load: &'a dyn Fn(&[u8], &mut [u8]), file: &'a [u8]) -> Loader<'a> {
-        let mut loader = Loader { load, file, record: vec![0; RECORD_BYTES], batch: 1, times: Vec::new() };
-        while loader.batch_time() * (loader.batch as f64) < BATCH_MICROSECONDS {
-            loader.batch *= 2;
-        }
-        loader
-    }
-
-    /// Microseconds a load, over one batch.
-    fn batch_time(&mut self) -> f64 {
-        let start = Instant::now();
-        for _ in 0..self.batch {
-            (self.load)(black_box(self.file), black_box(&mut self.record));
-        }
-        start.elapsed().as_secs_f64() * 1e6 / self.batch as f64
-    }
-
-    fn median(mut self) -> f64 {
-        self.times.sort_by(f64::total_cmp);
-        self.times[self.times.len() / 2]
-    }
+/// What the clock itself takes.
+fn clock_microseconds() -> f64 {
+    median((0..1_001).map(|_| Instant::now().elapsed().as_secs_f64() * 1e6).collect())
 }
 
-/// Median microseconds a load: the library at half size, at full size, and the evaluator at full size. They take turns,
-/// so that whatever else the machine does falls on all three alike.
-pub fn median_times(case: &Case) -> [f64; 3] {
-    let library = |file: &[u8], record: &mut [u8]| {
-        let _ = black_box(tca::load(file, record));
-    };
-    let evaluator = |file: &[u8], record: &mut [u8]| {
-        black_box(evaluator::load(file, record));
-    };
-    let mut loaders =
-        [Loader::new(&library, &case.half), Loader::new(&library, &case.full), Loader::new(&evaluator, &case.full)];
-    for _ in 0..REPETITIONS {
-        for loader in &mut loaders {
-            let time = loader.batch_time();
-            loader.times.push(time);
-        }
-    }
-    loaders.map(Loader::median)
+fn median(mut times: Vec<f64>) -> f64 {
+    times.sort_by(f64::total_cmp);
+    times[times.len() / 2]
 }
