@@ -6,7 +6,7 @@ use evaluator::fault::Fault;
 use evaluator::faults::look_for;
 use evaluator::machine::Evaluator;
 
-/// Most faults take under a hundred sessions; the rarest took 1,825 with this seed and 5,228 with another.
+/// Most faults take under a hundred sessions; the rarest took 1,588 with this seed and 4,068 with another.
 const MOST_SESSIONS: u64 = 10_000;
 
 #[test]
