@@ -2,7 +2,7 @@
 
 use crate::Pair;
 use evaluator::compare::small_let;
-use evaluator::layout::{put_u16, REPLY_HEAD};
+use evaluator::layout::{put_u16, RECORD_ROWS, REPLY_HEAD};
 use evaluator::make::kept::three_records;
 use evaluator::rows::{kind, Row};
 use evaluator::table::{file_of, leaf, list, reply_of, Table};
@@ -64,6 +64,8 @@ fn a_reply_of_another_head_or_length_is_refused() {
         assert_eq!(pair.reply(&other), (11, 0), "byte {at} is {value}");
     }
     assert_eq!(pair.reply(&reply_of(1, &[])), (11, 0));
+    // The head is looked at before the number.
+    assert_eq!(pair.reply(&reply_of(7, &[])), (11, 0));
     assert_eq!(pair.reply(&right), (0, 0));
 }
 
@@ -76,6 +78,30 @@ fn a_reply_to_a_number_that_is_not_open_is_refused() {
     }
     assert_eq!(pair.reply(&reply_of(1, &[NIL])), (0, 0));
     assert_eq!(pair.reply(&reply_of(1, &[NIL])), (12, 0));
+}
+
+/// "if the number stands nowhere, only the entry goes"
+#[test]
+fn a_reply_to_a_call_that_stands_nowhere_takes_the_entry_out() {
+    let [_, _, late] = three_records();
+    let mut pair = Pair::of(late.record);
+    // Of its calls 1 to 62 only 9 stands in the term; every third is a string.
+    for number in [3, 30, 60] {
+        let rows = pair.rows();
+        assert_eq!(pair.reply(&reply_of(number, &leaf(kind::STR, 0, 1))), (0, 0));
+        assert_eq!((pair.reply(&reply_of(number, &leaf(kind::STR, 0, 1))), pair.rows()), ((12, 0), rows));
+    }
+}
+
+/// "replaces every future of its number": 65,534 stands twice, below a tuple.
+#[test]
+fn a_reply_replaces_every_future_of_its_number() {
+    let [_, _, late] = three_records();
+    let mut pair = Pair::of(late.record);
+    let futures = |pair: &Pair| pair.library[0][RECORD_ROWS..].chunks(8).filter(|row| row[0] == kind::FUTURE).count();
+    assert_eq!(futures(&pair), 3);
+    assert_eq!(pair.reply(&late.reply), (0, 0));
+    assert_eq!(futures(&pair), 1);
 }
 
 /// 13: "reply row, as 7".

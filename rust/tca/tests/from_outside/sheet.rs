@@ -4,7 +4,7 @@ use crate::{document_file, Pair};
 use evaluator::compare::small_let;
 use evaluator::layout::{u16_at, u32_at, RECORD_ROWS};
 use evaluator::rows::{encode_rows, kind, Row};
-use evaluator::table::{leaf, reply_of};
+use evaluator::table::{apply, file_of, leaf, list, reply_of, tuple, Table};
 
 const VALUE: u32 = 0;
 const WAITING: u32 = 1;
@@ -89,4 +89,22 @@ fn a_record_that_no_load_made_is_unsound() {
     assert_eq!(tca::run(&mut record, &mut work, 5), Err(unsound));
     assert_eq!(tca::reply(&mut record, &mut work, &[]), Err(unsound));
     assert!(work.as_bytes().iter().all(|&byte| byte == 7));
+}
+
+/// A call's arguments one behind the other: attach({str 1, str 2}, [true]) sends 3 + 3 rows.
+#[test]
+fn a_call_holds_the_rows_of_all_its_arguments() {
+    let mut table = Table::default();
+    let (str, bool) = (table.str(), table.bool());
+    let (pair, bools) = (table.tuple(&[str, str]), table.list(bool));
+    let attach = table.foreign(&[(1, pair), (2, bools)], str);
+    let first = tuple(pair, &[leaf(kind::STR, str, 1), leaf(kind::STR, str, 2)]);
+    let second = list(bools, &[leaf(kind::TRUE, bool, 0)]);
+    let rows = apply(str, leaf(kind::FOREIGN, attach, 65_535), &[first.clone(), second.clone()]);
+    let mut machines = Pair::loaded(&file_of(&table.rows, &rows));
+    assert_eq!((machines.run(1), machines.rows()), ((0, SENT, 1, 1), 1));
+    let call = tca::Call::from_bytes(&machines.library[1]).unwrap();
+    assert_eq!((call.number, call.tool, call.result, call.rows.len()), (1, 65_535, str, 6));
+    assert_eq!(call.to_bytes()[12..], encode_rows(&[first, second].concat()));
+    assert!(crate::is_zero(&machines.library[1][12 + 6 * 8..]));
 }
