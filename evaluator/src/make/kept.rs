@@ -93,7 +93,7 @@ impl Routine {
         let whole = self.table.native(&[(f, rest), (x, strs)], strs);
         let both = self.table.tuple(&[strs, strs]);
         let x_row = leaf(kind::VARIABLE, strs, u32::from(x));
-        let again = apply(strs, leaf(kind::VARIABLE, rest, u32::from(f)), &[x_row.clone()]);
+        let again = apply(strs, leaf(kind::VARIABLE, rest, u32::from(f)), std::slice::from_ref(&x_row));
         let second = counted(kind::PROJECT, 2, strs, tuple(both, &[x_row.clone(), x_row.clone()]));
         let body = plain(kind::IF, strs, &[plain(kind::ISNIL, self.bool, &[x_row]), again, second]);
         let fix = plain(kind::FIX, rest, &[plain(kind::NATIVE, whole, &[body])]);
