@@ -5,3 +5,4 @@ pub mod Letter
 pub mod LetterBytes
 pub mod GoingOn
 pub mod CallOut
+pub mod Tries

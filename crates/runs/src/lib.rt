@@ -1,5 +1,6 @@
 // A run: the steps of a sound record's term, made in the record's row space and the work buffer.
 use layout::Limits;
+use reduce::Outcome;
 use search::Stand;
 ghost use mathlib.Core.Path.{_≡_};
 ghost use Prim.Native.Nat.{ℕ, _+_, _*_, _-_, _≤_, _<_};
@@ -7,13 +8,14 @@ ghost use mathlib.Core.Bool.{true, false};
 ghost use mathlib.Core.List.{List, [], _∷_, _++_};
 ghost use lib.ListN.{length, take, drop, replicate};
 ghost use Rattle.meaning.specs.Bytes.{number, write, termRow, recordBytes};
-ghost use Rattle.meaning.specs.Records.{rowCount as termCount};
+ghost use Rattle.meaning.specs.Records.{rowCount as termCount, typeCount, typesIn};
 ghost use Rattle.layout.specs.Rows.{board};
 ghost use Rattle.search.specs.Kept.{rowCount};
-ghost use Rattle.meaning.specs.Types.{Form};
+ghost use Rattle.meaning.specs.Types.{Form, formOf};
 ghost use Rattle.meaning.specs.Terms.{Tree};
 ghost use Rattle.search.specs.Search.{Room};
 ghost use Rattle.runs.specs.Sites.{Whole, Passing, Halts, GoesOn, InRecord, CallsOut, Calling};
+ghost use Rattle.runs.specs.Tries.{Trying, Tries, Going, Makes};
 ghost use Rattle.runs.specs.Going.{space, Begins, PutBack, letterFrom};
 
 // What a rule that is tried tells: it stays; it goes, with the rows of its tree and of the tree that it makes; it sends, with the rows of its tree.
@@ -160,4 +162,51 @@ fn call_out(kept: &[u8], work: &mut [u8], frames: &[u32], m: Limits, s: Stand, o
     let q = p + 8 * old;
     write_letter(&kept[p..q], work, next);
     e
+}
+
+// Where the record's types end.
+fn types_end(kept: &[u8]) -> usize
+    requires { ⌜ 20 ≤ length (now kept) ⌝ }
+    ensures { λ e. ⌜ e ≡ 20 + 36 * typeCount (now (kept .entry)) ⌝ }
+{
+    20 + 36 * layout::wide(sound::head::type_count(kept))
+}
+
+// The rule of the tree at the search is tried.
+fn try_here(kept: &[u8], work: &[u8], s: Stand) -> Tried
+    requires { ⌜ (20 + 36 * typeCount (now kept) ≤ length (now kept)) × (rowCount (now work) ≤ 4096) × (s .here ≡ true) × ((left : List ℕ) × (frames : List ℕ) × Trying (formOf (typesIn (now kept))) left (now work) frames s × Room left (now work) frames s × (rowCount (now work) - s .r ≤ 2048)) ⌝ }
+    ensures { λ x. ⌜ ((left : List ℕ) (frames : List ℕ) → Tries (formOf (typesIn (now (kept .entry)))) left (now (work .entry)) frames s x) ⌝ }
+{
+    let r = s.r;
+    let n = terms::end_of(&work[8 * r..], 0);
+    let e = types_end(kept);
+    let a = 8 * r;
+    let b = a + 8 * n;
+    let o = reduce::count(&kept[20..e], &work[a..b]);
+    match o {
+        Outcome::Stays => Tried::Stays,
+        Outcome::Goes(new) => Tried::Goes(n, new),
+    }
+}
+
+// A tree of old rows at the search becomes one of new rows, which ends where it ended: its rows are copied behind the rows passed, to be read there.
+fn make_here(kept: &mut [u8], work: &mut [u8], m: Limits, s: Stand, old: usize, new: usize) -> Stand
+    requires { ⌜ (length (now kept) ≡ recordBytes (board m)) × (typeCount (now kept) ≤ m .types) × (s .here ≡ true) × (m .rows ≤ 2048) × ((frames : List ℕ) × Room (space (board m) (now kept)) (now work) frames s × (s .l + (rowCount (now work) - s .r) ≤ m .rows) × (new ≤ s .r + old) × Going (formOf (typesIn (now kept))) (space (board m) (now kept)) (now work) frames s old new) ⌝ }
+    ensures { λ e. ⌜ InRecord (board m) (now (kept .entry)) (now (kept .exit)) × Makes (formOf (typesIn (now (kept .entry)))) (space (board m) (now (kept .entry))) (space (board m) (now (kept .exit))) (now (work .entry)) (now (work .exit)) s e old new ⌝ }
+{
+    let l = s.l;
+    let r = s.r;
+    let e = types_end(kept);
+    let p = layout::rows_at(m) + 8 * l;
+    let q = p + 8 * old;
+    layout::copy_to(kept, p, work, 8 * r, 8 * old);
+    let a = 8 * (r + old - new);
+    let b = a + 8 * new;
+    reduce::reduce(&kept[20..e], &kept[p..q], &mut work[a..b]);
+    Stand {
+        l: l,
+        r: r + old - new,
+        d: s.d,
+        here: false,
+    }
 }

@@ -1,0 +1,207 @@
+-- A rule that is tried: the rows lent to it, and what its outcome tells. Assumes nothing.
+use Prim.Native.Nat.{ℕ, _+_, _*_, _-_, _/_, _<_, _≤_}
+use mathlib.Core.Path.{_≡_, refl, ap, sym, _∙_, subst}
+use mathlib.Core.Bool.{Bool, true, false}
+use mathlib.Core.List.{List, _∷_, _++_, map}
+use mathlib.Core.Option.{Option, none, some}
+use native.Mathlib.Omega.{arith}
+use lib.ListN.{length, take, drop, length-take, length-drop, length-map}
+use Rattle.layout.specs.Rows.{rowTable, typeTable, termRows}
+use Rattle.layout.proofs.Tables.{row-table-cut, row-table-length, type-table-cut}
+use Rattle.meaning.specs.Bytes.{Limits, width, reads, termRow, callsAt, rowsAt}
+use Rattle.meaning.specs.Types.{Form}
+use Rattle.meaning.specs.Terms.{Tree, node, Row, raw, rowOf, flat, size, top, treeOf}
+use Rattle.meaning.specs.Steps.{Out, stay, go, become}
+use Rattle.meaning.specs.Records.{typesIn, typeCount}
+use Rattle.meaning.proofs.Trees.EachRow.{Fact, Every, AllRows, rows-left, rows-right, every-rows, rows-every}
+use Rattle.meaning.proofs.Trees.Parse.{length-flat}
+use Rattle.meaning.proofs.Bytes.RowTables.{legal, rows-raw}
+use Rattle.search.specs.Frames.{spelled, Frame, around, rowOfFrame, passedRows}
+use Rattle.search.specs.Kept.{table, toCome, rowCount, treeHere}
+use Rattle.search.proofs.Turns.{tree-here}
+use Rattle.search.specs.Search.{Searching}
+use Rattle.search.specs.declared.Stand.{Stand}
+use Rattle.terms.proofs.Scan.{size-some}
+use lib.Seq.{take-at}
+use Rattle.search.specs.Search.{Changed}
+use Rattle.search.proofs.Tables.{map-append, rows-before, pasted-length, pasted-before, pasted-there, table-same}
+use Rattle.search.proofs.Changes.{frame-rows}
+use Rattle.search.proofs.Ends.{all-rows}
+use Rattle.reduce.specs.Rule.{Redex, told, sizeIf, rowsIf, ruleOf}
+use Rattle.reduce.specs.declared.Outcome.the-variants.{Stays, Goes}
+use Rattle.reduce.proofs.Quiet.{rule-is, tree-is, redex-of}
+use Rattle.runs.specs.Sites.{Site, at-row, at-end, own, Halted}
+use Rattle.runs.specs.Tries.{Trying, Going, Makes}
+use Rattle.runs.proofs.Sites.{isCall, here-rows, here-no-call, here-behind}
+
+-- the types as they are lent
+pub lent-types : (kept : List ℕ) (e : ℕ) → e ≡ 20 + 36 * typeCount kept → 20 + 36 * typeCount kept ≤ length kept → typeTable (take (e - 20) (drop 20 kept)) ≡ typesIn kept
+unfolding typesIn width
+lent-types kept e q h =
+    let z : e - 20 ≡ 36 * typeCount kept = omega (arith, q) in
+    type-table-cut kept 20 (typeCount kept) (e - 20) z (omega (arith, z, h))
+
+-- WHAT AN OUTCOME TELLS of a tree that is no call
+own-rule : (form : ℕ → Form) (k : ℕ) (t : Tree) → isCall t ≡ false → own form k t ≡ become (ruleOf form t)
+unfolding own isCall
+own-rule form k (node h u f) e = rule-is form k h u f e
+
+pub told-stays : (form : ℕ → Form) (k : ℕ) (t : Tree) → isCall t ≡ false → told Stays ≡ sizeIf (ruleOf form t) → own form k t ≡ stay
+unfolding sizeIf become
+told-stays form k t e q = own-rule form k t e ∙ ap become (none-made (ruleOf form t) q)
+  where
+    none-made : (o : Option Tree) → none ≡ sizeIf o → o ≡ none
+    none-made none q = refl
+    none-made (some u) q = let z : _≡_ {A = ℕ} 0 1 = ap (λ (o : Option ℕ). elim o [ none ↦ 0 | some i ↦ 1 ]) (q ∙ refl) in absurd (omega arith)
+
+pub told-goes : (form : ℕ → Form) (k : ℕ) (t : Tree) (n : ℕ) → isCall t ≡ false → told (Goes n) ≡ sizeIf (ruleOf form t) → (u : Tree) × (own form k t ≡ go none u) × (size u ≡ n)
+unfolding sizeIf become
+told-goes form k t n e q = some-made (ruleOf form t) refl q
+  where
+    some-made : (o : Option Tree) → ruleOf form t ≡ o → some n ≡ sizeIf o → (u : Tree) × (own form k t ≡ go none u) × (size u ≡ n)
+    some-made none p q = let z : _≡_ {A = ℕ} 1 0 = ap (λ (o : Option ℕ). elim o [ none ↦ 0 | some i ↦ 1 ]) q in absurd (omega arith)
+    some-made (some u) p q = (u, own-rule form k t e ∙ ap become p, sym (ap (λ (o : Option ℕ). elim o [ none ↦ n | some i ↦ i ]) q))
+
+-- ITS ROWS are in range
+module _ (form : ℕ → Form) (k : ℕ) (left right frames : List ℕ) (s : Stand) (P : Fact) where
+  whole-flat : (Fs : List Frame) (ts : List Tree) → Searching form k left right frames s Fs ts → passedRows Fs ++ spelled ts ≡ flat (top (around Fs ts))
+  whole-flat Fs ts x =
+      let e : map raw (passedRows Fs ++ spelled ts) ≡ map raw (flat (top (around Fs ts))) = map-append raw (passedRows Fs) (spelled ts) ∙ cc (x .kept .rows, x .coming, all-rows form k left right frames s Fs ts x) in
+      sym (rows-raw (passedRows Fs ++ spelled ts)) ∙ ap (map rowOf) e ∙ rows-raw (flat (top (around Fs ts)))
+
+  site-range : (b : Bool) (Fs : List Frame) (ts : List Tree) (old : Tree) (outer : List Frame) (rest : List Tree) → Site b Fs ts old outer rest → Searching form k left right frames s Fs ts → AllRows P (passedRows Fs ++ spelled ts) → Every P old
+  unfolding spelled passedRows
+  site-range b Fs ts old outer rest (at-row {h = h} {u = u} {f = f} o w) x a = rows-every P old (rows-left P (flat old) (spelled rest) (rows-right P (passedRows outer) (flat old ++ spelled rest) a))
+  site-range b Fs ts old outer rest (at-end {F = F} e) x a =
+      rows-every P old (subst (λ (l : List Row). AllRows P l) (sym (frame-rows F rest e)) (rows-right P (passedRows outer) (rowOfFrame F ∷ spelled (F .before)) (rows-left P (passedRows (F ∷ outer)) (spelled rest) a)))
+
+  pub in-range : (t : Tree) (h : Halted form k left right frames s t) → Every P t → Every P (h .tree)
+  in-range t h d =
+      let a = h .all in
+      site-range (s .here) (a .framesAround) (a .trees) (h .tree) (h .outer) (h .rest) (h .site) (a .search)
+      (subst (λ (l : List Row). AllRows P l) (sym (whole-flat (a .framesAround) (a .trees) (a .search) ∙ ap flat (a .whole))) (every-rows P t d))
+
+-- AT THE SEARCH
+module _ (form : ℕ → Form) (k : ℕ) (left right frames : List ℕ) (s : Stand) (t : Tree) (h : Halted form k left right frames s t) (here : s .here ≡ true) where
+  here-site : Site true (h .all .framesAround) (h .all .trees) (h .tree) (h .outer) (h .rest)
+  here-site = subst (λ (b : Bool). Site b (h .all .framesAround) (h .all .trees) (h .tree) (h .outer) (h .rest)) here (h .site)
+
+  here-all : (table right (8 * s .r) (size (h .tree)) ≡ map raw (flat (h .tree))) × (toCome right (s .r + size (h .tree)) ≡ map raw (spelled (h .rest))) × (size (h .tree) ≤ rowCount right - s .r)
+  here-all = here-rows form k left right frames s (h .all .framesAround) (h .all .trees) (h .tree) (h .outer) (h .rest) here-site (h .all .search)
+
+  pub here-fits : size (h .tree) ≤ rowCount right - s .r
+  here-fits = here-all .2
+
+  pub here-tree : treeHere right (s .r) ≡ h .tree
+  here-tree = first-of (h .all .framesAround) (h .all .trees) (h .tree) (h .outer) (h .rest) here-site (h .all .search)
+    where
+      first-of : (Fs : List Frame) (ts : List Tree) (old : Tree) (outer : List Frame) (rest : List Tree) → Site true Fs ts old outer rest → Searching form k left right frames s Fs ts → treeHere right (s .r) ≡ old
+      first-of Fs ts old outer rest (at-row {h = g} {u = u} {f = f} o w) x = tree-here right (s .r) (node g u f) rest (x .coming)
+
+  module _ (n : ℕ) (x : List ℕ) (en : n ≡ size (h .tree)) (ex : x ≡ take (8 * n) (drop (8 * s .r) right)) (ends : s .r ≤ rowCount right) where
+    pub here-table : rowTable x ≡ map raw (flat (h .tree))
+    unfolding table
+    here-table =
+        ap (λ (y : List ℕ). rowTable y) ex ∙ row-table-cut right (8 * s .r) n (8 * n) refl (omega (arith, en, here-fits, ends)) ∙ ap (λ (i : ℕ). reads termRow i (drop (8 * s .r) right)) en ∙ here-all .0
+
+    pub here-length : length x ≡ 8 * n
+    here-length = ap length ex ∙ length-take (8 * n) (drop (8 * s .r) right) ∙ omega (arith, length-drop (8 * s .r) right, en, here-fits, ends)
+
+    pub here-redex : (count : ℕ) → Every (legal count) t → n ≤ 2048 → Redex x
+    here-redex count d few = redex-of x (h .tree) here-table count (in-range form k left right frames s (legal count) t h d) (omega (arith, here-length, few))
+
+    pub here-stays : told Stays ≡ sizeIf (ruleOf form (treeOf (termRows x))) → own form k (h .tree) ≡ stay
+    here-stays q = told-stays form k (h .tree) (here-no-call _ _ _ _ _ here-site) (q ∙ ap (λ (y : Tree). sizeIf (ruleOf form y)) (tree-is x (h .tree) here-table))
+
+    pub here-goes : (m : ℕ) → told (Goes m) ≡ sizeIf (ruleOf form (treeOf (termRows x))) → (u : Tree) × (own form k (h .tree) ≡ go none u) × (size u ≡ m)
+    here-goes m q = told-goes form k (h .tree) m (here-no-call _ _ _ _ _ here-site) (q ∙ ap (λ (y : Tree). sizeIf (ruleOf form y)) (tree-is x (h .tree) here-table))
+
+-- WHAT A RULE MAKES
+made-rule : (form : ℕ → Form) (k : ℕ) (t u : Tree) → isCall t ≡ false → own form k t ≡ go none u → ruleOf form t ≡ some u
+unfolding become
+made-rule form k t u e g = by (ruleOf form t) (sym (own-rule form k t e) ∙ g)
+  where
+    by : (o : Option Tree) → become o ≡ go none u → o ≡ some u
+    by none q = let z : _≡_ {A = ℕ} 0 1 = ap (λ (x : Out). elim x [ stay ↦ 0 | go c v ↦ 1 ]) q in absurd (omega arith)
+    by (some v) q = ap some (ap (λ (x : Out). elim x [ stay ↦ u | go c w ↦ w ]) q)
+
+-- at the search
+module _ (form : ℕ → Form) (k : ℕ) (left left′ right right′ frames : List ℕ) (s s′ : Stand) (t : Tree) (h : Halted form k left right frames s t) (here : s .here ≡ true) (u : Tree) (g : own form k (h .tree) ≡ go none u) where
+  here-rule : ruleOf form (h .tree) ≡ some u
+  here-rule = made-rule form k (h .tree) u (here-no-call _ _ _ _ _ (here-site form k left right frames s t h here)) g
+
+  pub here-made-rows : (x : List ℕ) → rowTable x ≡ map raw (flat (h .tree)) → rowsIf (ruleOf form (treeOf (termRows x))) ≡ map raw (flat u)
+  unfolding rowsIf
+  here-made-rows x e = ap (λ (y : Tree). rowsIf (ruleOf form y)) (tree-is x (h .tree) e) ∙ ap rowsIf here-rule
+
+  pub here-made : (to : List ℕ) (old new : ℕ) → size (h .tree) ≡ old → size u ≡ new → s .r ≤ rowCount right → new ≤ s .r + old → s′ .l ≡ s .l → s′ .d ≡ s .d → s′ .r ≡ s .r + old - new
+      → table left′ 0 (s .l) ≡ table left 0 (s .l) → rowTable to ≡ map raw (flat u) → length to ≡ 8 * new
+      → right′ ≡ take (8 * (s .r + old - new)) right ++ (to ++ drop (8 * (s .r + old - new) + 8 * new) right)
+      → Changed form k left′ right′ frames s′ (h .outer) u (h .rest)
+  unfolding spelled
+  here-made to old new eo en ends fits el ed er same rows lt e =
+      let z : s .r + old - new + new ≡ s .r + size (h .tree) = omega (arith, eo, fits) in
+      let n : length to / 8 ≡ new = omega (arith, lt) in
+      let made : reads termRow new to ≡ map raw (flat u) = ap (λ (i : ℕ). reads termRow i to) (sym n) ∙ rows in
+      let all = here-all form k left right frames s t h here in
+      let q = rows-before right to right′ (s .r + old - new) new e (omega (arith, z, eo, all .2, ends)) lt (flat u) (spelled (h .rest)) made (ap (toCome right) z ∙ all .1) in
+      here-behind form k left left′ right right′ frames s s′ (h .all .framesAround) (h .all .trees) (h .tree) u (h .outer) (h .rest) (here-site form k left right frames s t h here) (h .all .search) el ed same (ap (toCome right′) er ∙ q)
+
+-- the rows copied behind the rows passed
+module _ (m : Limits) (kept kept′ work : List ℕ) (s : Stand) (old : ℕ) (h : rowsAt m + 8 * s .l + 8 * old ≤ length kept) (g : 8 * s .r + 8 * old ≤ length work)
+    (e : kept′ ≡ take (rowsAt m + 8 * s .l) kept ++ (take (8 * old) (drop (8 * s .r) work) ++ drop (rowsAt m + 8 * s .l + 8 * old) kept)) where
+  ly : length (take (8 * old) (drop (8 * s .r) work)) ≡ 8 * old
+  ly = length-take (8 * old) (drop (8 * s .r) work) ∙ omega (arith, length-drop (8 * s .r) work)
+
+  pub source-long : length kept′ ≡ length kept
+  source-long = pasted-length kept (take (8 * old) (drop (8 * s .r) work)) kept′ (rowsAt m + 8 * s .l) (8 * old) e h ly
+
+  pub source-front : take (rowsAt m) kept′ ≡ take (rowsAt m) kept
+  source-front = pasted-before kept (take (8 * old) (drop (8 * s .r) work)) kept′ (rowsAt m + 8 * s .l) (8 * old) e h ly 0 (rowsAt m) (omega arith)
+
+  pub source-types : (n : ℕ) → 20 + n ≤ rowsAt m → take n (drop 20 kept′) ≡ take n (drop 20 kept)
+  source-types n q = pasted-before kept (take (8 * old) (drop (8 * s .r) work)) kept′ (rowsAt m + 8 * s .l) (8 * old) e h ly 20 n (omega (arith, q))
+
+  pub source-rows : take (8 * old) (drop (rowsAt m + 8 * s .l) kept′) ≡ take (8 * old) (drop (8 * s .r) work)
+  source-rows = ap (take (8 * old)) (pasted-there kept (take (8 * old) (drop (8 * s .r) work)) kept′ (rowsAt m + 8 * s .l) (8 * old) e h ly) ∙ take-at (take (8 * old) (drop (8 * s .r) work)) (drop (rowsAt m + 8 * s .l + 8 * old) kept) (8 * old) ly
+
+  pub source-passed : table (drop (rowsAt m) kept′) 0 (s .l) ≡ table (drop (rowsAt m) kept) 0 (s .l)
+  source-passed = table-same (drop (rowsAt m) kept′) (drop (rowsAt m) kept) 0 0 (s .l) (pasted-before kept (take (8 * old) (drop (8 * s .r) work)) kept′ (rowsAt m + 8 * s .l) (8 * old) e h ly (rowsAt m) (8 * s .l) (omega arith))
+
+-- the types stand before the row space
+pub types-fit : (m : Limits) (n : ℕ) → n ≤ m .types → 20 + 36 * n ≤ rowsAt m
+unfolding rowsAt callsAt width
+types-fit m n h = omega (arith, h)
+
+-- the rows lent to a rule that goes
+module _ (form : ℕ → Form) (left right frames : List ℕ) (s : Stand) (old new : ℕ) (here : s .here ≡ true) (g : Going form left right frames s old new) where
+  abbrev T : Trying form left right frames s
+  T = g .trying
+
+  pub going-fits : old ≤ rowCount right - s .r
+  going-fits = omega (arith, g .rows, here-fits form (T .number) left right frames s (T .whole) (T .halted) here)
+
+  pub going-some : 0 < new
+  going-some = omega (arith, g .made-rows, size-some (g .made))
+
+  pub going-redex : (x : List ℕ) → x ≡ take (8 * old) (drop (8 * s .r) right) → s .r ≤ rowCount right → old ≤ 2048 → Redex x
+  going-redex x e ends few = here-redex form (T .number) left right frames s (T .whole) (T .halted) here old x (sym (g .rows)) e ends (T .count) (T .in-range) few
+
+  pub going-rows : (x : List ℕ) → x ≡ take (8 * old) (drop (8 * s .r) right) → s .r ≤ rowCount right → length (rowsIf (ruleOf form (treeOf (termRows x)))) ≡ new
+  going-rows x e ends =
+      ap length (here-made-rows form (T .number) left left right right frames s s (T .whole) (T .halted) here (g .made) (g .goes) x (here-table form (T .number) left right frames s (T .whole) (T .halted) here old x (sym (g .rows)) e ends))
+      ∙ length-map (flat (g .made)) raw ∙ length-flat (g .made) ∙ g .made-rows
+
+-- and what it writes
+pub here-makes : (form : ℕ → Form) (left left′ right right′ to x : List ℕ) (s s′ : Stand) (old new : ℕ) → s .here ≡ true → s .r ≤ rowCount right → new ≤ s .r + old → s′ .l ≡ s .l → s′ .d ≡ s .d → s′ .r ≡ s .r + old - new
+    → table left′ 0 (s .l) ≡ table left 0 (s .l) → x ≡ take (8 * old) (drop (8 * s .r) right) → rowTable to ≡ rowsIf (ruleOf form (treeOf (termRows x))) → length to ≡ 8 * new
+    → right′ ≡ take (8 * (s .r + old - new)) right ++ (to ++ drop (8 * (s .r + old - new) + 8 * new) right) → length right′ ≡ length right
+    → Makes form left left′ right right′ s s′ old new
+here-makes form left left′ right right′ to x s s′ old new here ends fits el ed er same ex rows lt e n =
+    record {
+      long = n;
+      changed = λ k frames t h u g eo.
+          let made = rows ∙ here-made-rows form k left left′ right right′ frames s s′ t h here u g x (here-table form k left right frames s t h here old x (sym eo) ex ends) in
+          let count : size u ≡ new = sym (length-flat u) ∙ sym (length-map (flat u) raw) ∙ ap length (sym made) ∙ row-table-length to ∙ omega (arith, lt) in
+          here-made form k left left′ right right′ frames s s′ t h here u g to old new eo count ends fits el ed er same made lt e;
+    }

@@ -1,0 +1,40 @@
+-- A rule that is tried where the search has stopped, and one that is carried out. Assumes nothing.
+use Prim.Native.Nat.{ℕ}
+use mathlib.Core.Path.{_≡_}
+use mathlib.Core.List.{List}
+use mathlib.Core.Option.{none}
+use lib.ListN.{length}
+use Rattle.meaning.specs.Types.{Form}
+use Rattle.meaning.specs.Terms.{Tree, size}
+use Rattle.meaning.specs.Steps.{go}
+use Rattle.meaning.proofs.Trees.EachRow.{Every}
+use Rattle.meaning.proofs.Bytes.RowTables.{legal}
+use Rattle.search.specs.Search.{Changed}
+use Rattle.search.specs.declared.Stand.{Stand}
+use Rattle.runs.specs.Sites.{Halted, own, Tells}
+use Rattle.runs.specs.declared.Tried.{Tried}
+
+-- the search has stopped in a whole all of whose rows are in range
+pub record Trying (form : ℕ → Form) (left right frames : List ℕ) (s : Stand) : Type 0 where
+  pub number : ℕ
+  pub whole : Tree
+  pub halted : Halted form number left right frames s whole
+  pub count : ℕ
+  pub in-range : Every (legal count) whole
+
+-- what the rule there does
+abbrev pub Tries : (ℕ → Form) → List ℕ → List ℕ → List ℕ → Stand → Tried → Type 0
+Tries form left right frames s x = (k : ℕ) (t : Tree) (h : Halted form k left right frames s t) → Tells x form k (h .tree)
+
+-- a rule that goes where the search has stopped
+pub record Going (form : ℕ → Form) (left right frames : List ℕ) (s : Stand) (old new : ℕ) : Type 0 where
+  pub trying : Trying form left right frames s
+  pub made : Tree
+  pub goes : own form (trying .number) (trying .halted .tree) ≡ go none made
+  pub rows : size (trying .halted .tree) ≡ old
+  pub made-rows : size made ≡ new
+
+-- it is carried out: the new tree stands in the place of the old one
+pub record Makes (form : ℕ → Form) (left left′ right right′ : List ℕ) (s s′ : Stand) (old new : ℕ) : Type 0 where
+  pub long : length right′ ≡ length right
+  pub changed : (k : ℕ) (frames : List ℕ) (t : Tree) (h : Halted form k left right frames s t) (u : Tree) → own form k (h .tree) ≡ go none u → size (h .tree) ≡ old → Changed form k left′ right′ frames s′ (h .outer) u (h .rest)
