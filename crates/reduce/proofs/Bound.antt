@@ -9,8 +9,8 @@ use native.Mathlib.Numerals.{add-one}
 use lib.Dec.{eqb}
 use lib.ListN.{length, getD, take, set}
 use lib.Seq.{take-suc, take-suc-set, getD-set-same, getD-set-other}
-use borrow.Author.Tests.{eq-eqb, ne-eqb}
-use Rattle.meaning.specs.Types.{Base, Str, File, Truth, Side, ntv, frn, Param, Form, absent, base, fList, fTuple, fFun, types, params, parts, elemOf, formNo, result, formRow, formOf}
+use borrow.Author.Tests.{ne-eqb}
+use Rattle.meaning.specs.Types.{Str, File, Truth, ntv, frn, Param, Form, absent, base, fTuple, fFun, types, params, parts, elemOf, formNo, result, formRow, formOf}
 use Rattle.layout.specs.Rows.{typeTable}
 use Rattle.rules.specs.Forms.{says, forms}
 use Rattle.rules.proofs.ByRule.{params-few, params-high, params-all}

@@ -1,18 +1,17 @@
 -- Rules that put arguments for names: let, a call of a native function, fix. Assumes nothing.
-use Prim.Native.Nat.{ℕ, zero, suc, _+_, _*_, _-_, _≤_, _<_, min}
+use Prim.Native.Nat.{ℕ, zero, suc, _+_, _≤_, _<_, min}
 use mathlib.Core.Path.{_≡_, refl, ap, sym, _∙_}
-use mathlib.Core.Bool.{Bool, true, false, cond}
-use mathlib.Core.List.{List, [], _∷_, _++_, map, append-nil}
-use mathlib.Core.Option.{Option, none, some}
+use mathlib.Core.Bool.{true, false}
+use mathlib.Core.List.{List, [], _∷_, map, append-nil}
+use mathlib.Core.Option.{none, some}
 use native.Mathlib.Omega.{arith}
-use lib.Dec.{eqb}
-use lib.ListN.{length, getD, take, length-map, length-take}
+use lib.ListN.{length, getD, take, length-take}
 use lib.Seq.{take-all}
 use native.Mathlib.Decide.{decLt}
 use borrow.Author.Tests.{eq-eqb, ne-eqb}
 use Rattle.meaning.specs.Types.{Form, Param, params, names}
-use Rattle.meaning.specs.Terms.{Head, lambda, apply, fix, bind, arity, code, nOf, wordOf, headFrom, Tree, Forest, node, end, more, tyOf, is, Row, flat, size, sizes, raw, rowOf, kindNo, nNo, typeNo, wordNo, treeOf, treeAt, grove}
-use Rattle.meaning.specs.Steps.{stay, go, nth, child, kid, swap, assign, put, letStep, tie, fixStep, applyStep, contract}
+use Rattle.meaning.specs.Terms.{lambda, apply, fix, bind, code, nOf, wordOf, headFrom, Tree, Forest, node, end, more, tyOf, is, Row, flat, size, sizes, raw, rowOf, kindNo, nNo, typeNo, wordNo, treeOf, treeAt, grove}
+use Rattle.meaning.specs.Steps.{nth, child, kid, swap, assign, put, letStep, tie, fixStep, applyStep, contract}
 use Rattle.meaning.proofs.Trees.Parse.{tree-at-zero}
 use Rattle.terms.proofs.Scan.{grove-none, grove-size, size-some}
 use Rattle.put.specs.Put.{standing, putRows}
@@ -22,7 +21,7 @@ use Rattle.reduce.specs.Rule.{quiet, ruleOf}
 use Rattle.reduce.specs.Plan.{rowsOf, rowNo, ruleRows, TiesAt, CallsAt, Plans}
 use Rattle.reduce.specs.Given.{tieRow, PutsRule}
 use Rattle.reduce.specs.declared.Plan.the-variants.{Stays, Tie}
-use Rattle.reduce.proofs.Roots.{grove-one, grove-two, tree-grove, grove-part, grove-last, kind-is, type-is, made-as, sized-as, some-row, root, root-size}
+use Rattle.reduce.proofs.Roots.{grove-one, grove-two, tree-grove, grove-part, grove-last, kind-is, type-is, made-as, sized-as, root, root-size}
 use Rattle.meaning.proofs.Trees.Parse.{grove-more}
 
 -- Steps by tests -------------------------------------------------------------------------------------------------

@@ -1,24 +1,23 @@
 -- Rules that keep a part of the rows, or make one row, or project a list. Assumes nothing.
-use Prim.Native.Nat.{ℕ, zero, suc, _+_, _*_, _-_, _≤_, _<_}
+use Prim.Native.Nat.{ℕ, zero, suc, _+_, _-_, _≤_, _<_}
 use mathlib.Core.Path.{_≡_, refl, ap, sym, _∙_}
-use mathlib.Core.Bool.{Bool, true, false, cond}
+use mathlib.Core.Bool.{true, false}
 use mathlib.Core.List.{List, [], _∷_, _++_, map, append-nil, map-append}
 use mathlib.Core.Option.{Option, none, some}
 use native.Mathlib.Omega.{arith}
 use lib.Dec.{eqb}
-use lib.ListN.{length, getD}
+use lib.ListN.{length}
 use borrow.Author.Tests.{eq-eqb, ne-eqb}
 use Rattle.meaning.specs.Types.{Form, elemOf}
-use Rattle.meaning.specs.Terms.{str, file, truth, Head, lit, var, lambda, foreign, apply, future, ite, fix, nil, cons, isnil, zip, tuple, project, lproject, bind, arity, code, nOf, wordOf, headFrom, Tree, Forest, node, end, more, is, Row, flat, flats, size, sizes, raw, rowOf, kindNo, nNo, typeNo, wordNo, treeOf, treeAt, grove}
-use Rattle.meaning.specs.Steps.{stay, go, nth, child, kid, swap, become, ifStep, isnilStep, projectStep, lprojectStep, contract}
+use Rattle.meaning.specs.Terms.{str, file, truth, Head, lit, var, lambda, foreign, apply, future, ite, fix, nil, cons, isnil, zip, tuple, project, lproject, bind, arity, code, nOf, wordOf, headFrom, Tree, Forest, node, end, more, is, Row, flat, size, sizes, raw, rowOf, kindNo, nNo, typeNo, wordNo, treeOf, treeAt, grove}
+use Rattle.meaning.specs.Steps.{nth, child, kid, swap, become, ifStep, isnilStep, projectStep, lprojectStep, contract}
 use Rattle.terms.proofs.Scan.{grove-none, grove-size, size-some}
 use Rattle.terms.proofs.ByNumber.{kind-told}
-use Rattle.put.specs.Put.{standing}
 use Rattle.put.proofs.Meets.{stands}
 use Rattle.reduce.specs.Rule.{quiet, ruleOf}
-use Rattle.reduce.specs.Plan.{rowsOf, rowNo, ruleRows, pairRows, Plans}
+use Rattle.reduce.specs.Plan.{rowsOf, rowNo, pairRows, Plans}
 use Rattle.reduce.specs.declared.Plan.the-variants.{Stays, Part, Leaf, Pair}
-use Rattle.reduce.proofs.Roots.{grove-one, grove-two, grove-three, nth-grove, nth-none, nth-zero, grove-part, kind-is, made-as, sized-as, some-row, root, root-size}
+use Rattle.reduce.proofs.Roots.{grove-one, grove-two, grove-three, nth-grove, nth-none, nth-zero, grove-part, kind-is, made-as, sized-as, root, root-size}
 
 -- Steps by tests -------------------------------------------------------------------------------------------------
 

@@ -1,16 +1,15 @@
 -- A zip's arguments, one by one: where a head, a tail or the whole of each stands, and what is left. Assumes nothing.
-use Prim.Native.Nat.{ℕ, zero, suc, _+_, _*_, _-_, _/_, _%_, _≤_, _<_}
+use Prim.Native.Nat.{ℕ, _+_, _-_, _/_, _%_, _≤_, _<_}
 use mathlib.Core.Path.{_≡_, refl, ap, sym, _∙_}
 use mathlib.Core.Bool.{Bool, true, false, cond}
-use mathlib.Core.List.{List, [], _∷_, _++_, map, append-nil, append-assoc, map-append}
+use mathlib.Core.List.{List, [], _++_, map, append-assoc, map-append}
 use native.Mathlib.Omega.{arith}
-use lib.Dec.{eqb}
-use lib.ListN.{length, getD, take, drop, length-append}
+use lib.ListN.{length, take, drop, length-append}
 use lib.Seq.{take-at, length-take-le}
-use borrow.Author.Tests.{eqb-true, eq-eqb, ne-eqb}
+use borrow.Author.Tests.{eqb-true}
 use Rattle.meaning.specs.Bytes.{_∧ᵇ_}
 use Rattle.meaning.specs.Types.{low}
-use Rattle.meaning.specs.Terms.{cons, code, headFrom, Tree, node, end, more, is, Row, flat, flats, size, sizes, raw, rowOf, kindNo, nNo, typeNo, wordNo, treeAt, grove, kids}
+use Rattle.meaning.specs.Terms.{cons, headFrom, Tree, node, end, more, is, Row, flat, flats, size, sizes, raw, rowOf, kindNo, nNo, typeNo, wordNo, treeAt, grove, kids}
 use Rattle.meaning.specs.Steps.{_∨ᵇ_, nth, child, kid, swap, isList, ready, anyNil, kidsAt}
 use Rattle.meaning.proofs.Trees.Tests.{left, right, neither-l, neither-r}
 use Rattle.terms.proofs.Scan.{grove-none, grove-size, size-some}

@@ -1,5 +1,5 @@
 -- A rule that sends nothing does not ask for the next number; and rows that are a tree's are one. Assumes nothing.
-use Prim.Native.Nat.{ℕ, zero, suc, _≤_}
+use Prim.Native.Nat.{ℕ, _≤_}
 use mathlib.Core.Path.{_≡_, refl, ap, sym, _∙_}
 use mathlib.Core.Bool.{Bool, true, false, cond}
 use mathlib.Core.List.{List, [], _∷_, map}
@@ -9,11 +9,11 @@ use lib.ListN.{length, getD, length-map}
 use Rattle.layout.specs.Rows.{rowTable, termRows}
 use Rattle.meaning.specs.Bytes.{_∧ᵇ_, within}
 use Rattle.meaning.specs.Types.{Form}
-use Rattle.meaning.specs.Terms.{str, file, truth, Head, lit, var, lambda, foreign, apply, future, ite, fix, nil, cons, isnil, zip, tuple, project, lproject, bind, arity, code, Tree, Forest, node, end, more, headOf, is, flat, size, raw, rowOf, treeOf}
+use Rattle.meaning.specs.Terms.{Head, lit, var, lambda, foreign, apply, future, ite, fix, nil, cons, isnil, zip, tuple, project, lproject, bind, arity, code, Tree, Forest, node, end, more, headOf, is, flat, size, raw, rowOf, treeOf}
 use Rattle.meaning.specs.Typing.{firstIs}
-use Rattle.meaning.specs.Steps.{Out, stay, go, become, child, values, isList, ready, anyNil, ifStep, isnilStep, projectStep, sendStep, lprojectStep, tie, fixStep, zipStep, applyStep, letStep, contract}
-use Rattle.meaning.specs.Types.{Param, params}
-use Rattle.meaning.specs.Terms.{tyOf, nOf}
+use Rattle.meaning.specs.Steps.{Out, stay, go, become, child, values, ready, anyNil, ifStep, isnilStep, projectStep, sendStep, lprojectStep, tie, fixStep, zipStep, applyStep, letStep, contract}
+use Rattle.meaning.specs.Types.{Param}
+use Rattle.meaning.specs.Terms.{nOf}
 use Rattle.meaning.specs.Terms.{kindNo, wordNo, rowFault, kindFields, none-used, a-number, withinOne}
 use Rattle.meaning.proofs.Trees.Tests.{within-if}
 use native.Mathlib.Omega.{arith}

@@ -1,11 +1,9 @@
 -- The tree of a table, told by its first row and by where its parts stand. Assumes nothing.
-use Prim.Native.Nat.{ℕ, zero, suc, _+_, _*_, _-_, _≤_, _<_}
+use Prim.Native.Nat.{ℕ, zero, suc, _+_, _≤_, _<_}
 use mathlib.Core.Path.{_≡_, refl, ap, sym, _∙_}
-use mathlib.Core.Bool.{Bool, true, false}
 use mathlib.Core.List.{List, [], _∷_, map}
-use mathlib.Core.Option.{Option, none, some}
+use mathlib.Core.Option.{none, some}
 use native.Mathlib.Omega.{arith}
-use native.Mathlib.Nat.{add-zero}
 use lib.Dec.{eqb}
 use lib.ListN.{length, getD, length-map, List·getD-map}
 use Rattle.meaning.specs.Terms.{Head, arity, code, headFrom, Tree, Forest, node, end, more, headOf, tyOf, is, Row, rowOf, kindNo, nNo, typeNo, wordNo, size, sizes, treeOf, treeAt, grove, kids}

@@ -1,5 +1,5 @@
 -- What each plan says of the number of rows and of the rows. Assumes nothing.
-use Prim.Native.Nat.{ℕ, zero, suc, _+_, _*_, _-_, _≤_, _<_}
+use Prim.Native.Nat.{ℕ, _+_, _*_, _-_, _≤_}
 use mathlib.Core.Path.{_≡_, refl, ap, sym, _∙_}
 use mathlib.Core.List.{List, [], _∷_, _++_, map, append-nil}
 use mathlib.Core.Option.{Option, none, some}
@@ -8,14 +8,14 @@ use lib.ListN.{length, getD, take, drop, length-append, length-take, length-drop
 use Rattle.layout.specs.Rows.{rowTable}
 use Rattle.layout.proofs.Tables.{row-table-append, row-table-take}
 use Rattle.meaning.specs.Types.{Form}
-use Rattle.meaning.specs.Terms.{Tree, flat, size, raw, rowOf, typeNo, treeOf}
+use Rattle.meaning.specs.Terms.{Tree, flat, raw, rowOf, typeNo, treeOf}
 use Rattle.meaning.proofs.Trees.Parse.{length-flat}
 use Rattle.put.specs.Put.{standing, rowsFor, chosen, after, run, argRows, putRows}
 use Rattle.put.proofs.Loops.{standing-length}
 use Rattle.reduce.specs.Rule.{ruleOf, sizeIf, rowsIf}
-use Rattle.reduce.specs.Plan.{rowsOf, rowNo, ruleRows, pairRows, zipRows, LetAt, CallsAt, TiesAt, ZipsAt, Plans}
+use Rattle.reduce.specs.Plan.{rowsOf, rowNo, pairRows, zipRows, LetAt, CallsAt, TiesAt, ZipsAt, Plans}
 use Rattle.reduce.specs.Given.{tieRow, PutsRule}
-use Rattle.reduce.specs.declared.Puts.{Puts}
+use Rattle.reduce.specs.declared.puts.Puts.{Puts}
 use Rattle.reduce.specs.declared.Plan.the-variants.{Stays, Part, Leaf, Pair, Let, Call, Tie, Zip}
 use Rattle.reduce.proofs.Filled.{pair-length}
 

@@ -1,27 +1,25 @@
 -- The rule of a zip, by its rows. Assumes nothing.
-use Prim.Native.Nat.{ℕ, zero, suc, _+_, _*_, _-_, _/_, _%_, _≤_, _<_}
+use Prim.Native.Nat.{ℕ, suc, _+_, _-_, _/_, _%_, _≤_, _<_}
 use mathlib.Core.Path.{_≡_, refl, ap, sym, _∙_}
 use mathlib.Core.Bool.{Bool, true, false, cond}
 use mathlib.Core.List.{List, [], _∷_, _++_, map, append-nil, append-assoc, map-append}
-use mathlib.Core.Option.{Option, none, some}
+use mathlib.Core.Option.{none, some}
 use native.Mathlib.Omega.{arith}
 use lib.Dec.{eqb}
-use lib.ListN.{length, getD}
+use lib.ListN.{length}
 use borrow.Author.Tests.{eq-eqb, ne-eqb}
 use Rattle.meaning.specs.Bytes.{_∧ᵇ_}
 use Rattle.meaning.specs.Types.{Form, elemOf, low, rest}
-use Rattle.meaning.specs.Terms.{Head, nil, cons, zip, apply, arity, code, nOf, wordOf, headFrom, Tree, Forest, node, end, more, headOf, is, Row, flat, flats, size, sizes, raw, rowOf, kindNo, nNo, typeNo, wordNo, treeOf, treeAt, grove, kids}
-use Rattle.meaning.specs.Steps.{_∨ᵇ_, stay, go, nth, child, kid, swap, isList, ready, anyNil, kidsAt, sendStep, zipCons, zipStep, applyStep}
+use Rattle.meaning.specs.Terms.{nil, cons, zip, apply, code, nOf, wordOf, headFrom, Tree, Forest, node, end, more, headOf, is, Row, flat, flats, size, sizes, raw, rowOf, kindNo, nNo, typeNo, wordNo, treeOf, treeAt, grove, kids}
+use Rattle.meaning.specs.Steps.{_∨ᵇ_, stay, nth, child, kid, swap, isList, ready, anyNil, kidsAt, sendStep, zipCons, zipStep, applyStep}
 use Rattle.meaning.proofs.Trees.Parse.{grove-more}
-use Rattle.meaning.proofs.Trees.Tests.{left, right, neither-l, neither-r}
-use Rattle.terms.proofs.Scan.{grove-none, grove-size, size-some}
-use Rattle.put.specs.Put.{standing}
+use Rattle.terms.proofs.Scan.{grove-none, grove-size}
 use Rattle.put.proofs.Meets.{stands}
 use Rattle.reduce.specs.Rule.{quiet, ruleOf}
-use Rattle.reduce.specs.Plan.{rowsOf, rowNo, ruleRows, halfRows, zipRows, Plans}
+use Rattle.reduce.specs.Plan.{rowsOf, rowNo, halfRows, zipRows, Plans}
 use Rattle.reduce.specs.declared.Plan.the-variants.{Stays, Leaf, Zip}
 use Rattle.reduce.proofs.Quiet.{send-quiet}
-use Rattle.reduce.proofs.Roots.{grove-one, grove-two, kind-is, made-as, sized-as, root, root-size}
+use Rattle.reduce.proofs.Roots.{grove-one, kind-is, made-as, sized-as}
 use Rattle.reduce.proofs.Given.{call-rule, call-size, call-more}
 
 -- Steps by tests -------------------------------------------------------------------------------------------------

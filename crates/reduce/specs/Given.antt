@@ -8,7 +8,7 @@ use Rattle.meaning.specs.Types.{Form}
 use Rattle.meaning.specs.Terms.{typeNo}
 use Rattle.put.specs.Put.{Ready, putRows}
 use Rattle.reduce.specs.Plan.{rowNo, ruleRows}
-use Rattle.reduce.specs.declared.Puts.{Puts}
+use Rattle.reduce.specs.declared.puts.Puts.{Puts}
 
 -- "the function of the remaining arguments": its row
 abbrev pub tieRow : List (List ℕ) → List ℕ

@@ -1,12 +1,12 @@
 -- What a rule makes, told by rows: which rows are kept, which are new, and where they stand. Assumes nothing.
-use Prim.Native.Nat.{ℕ, zero, suc, _+_, _≤_, _<_}
+use Prim.Native.Nat.{ℕ, _+_, _≤_}
 use mathlib.Core.Path.{_≡_}
 use mathlib.Core.Bool.{true, false}
 use mathlib.Core.List.{List, [], _∷_, _++_, map}
 use mathlib.Core.Option.{Option, none, some}
 use lib.ListN.{length, getD}
-use Rattle.meaning.specs.Types.{Form, Param, params, elemOf}
-use Rattle.meaning.specs.Terms.{Tree, flat, flats, size, sizes, raw, rowOf, kindNo, nNo, typeNo, wordNo, treeOf, treeAt, grove}
+use Rattle.meaning.specs.Types.{Form, params, elemOf}
+use Rattle.meaning.specs.Terms.{Tree, flat, flats, size, sizes, raw, rowOf, kindNo, nNo, typeNo, treeOf, treeAt, grove}
 use Rattle.meaning.specs.Steps.{ready, anyNil, kidsAt}
 use Rattle.put.specs.Put.{standing}
 use Rattle.reduce.specs.Rule.{ruleOf}

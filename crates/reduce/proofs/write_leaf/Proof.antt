@@ -1,16 +1,12 @@
 -- One row is the table.
-use mathlib.Core.Path.{_≡_, refl, ap, sym, _∙_, subst}
+use mathlib.Core.Path.{_≡_, refl, ap, sym, _∙_}
 use native.Mathlib.Omega.{arith}
-use Prim.Native.Nat.{ℕ, _+_, _*_, _≤_, _<_, _-_}
-use mathlib.Core.List.{List, map, _∷_, [], _++_}
-use lib.ListN.{length, getD, take, drop, length-drop}
-use lib.Seq.{length-take-le}
-use Rattle.layout.specs.Rows.{typeTable, rowTable, termRows}
+use Prim.Native.Nat.{ℕ}
+use mathlib.Core.List.{List, _∷_, []}
+use lib.ListN.{take}
+use Rattle.layout.specs.Rows.{rowTable}
 use Rattle.layout.proofs.Tables.{row-table-length}
-use mathlib.Core.Option.{none, some}
-use Rattle.meaning.specs.Types.{formOf}
-use Rattle.meaning.specs.Terms.{nNo, typeNo}
-use Rattle.reduce.specs.Plan.{rowNo, Plans}
+use Rattle.meaning.specs.Terms.{typeNo}
 use Rattle.reduce.proofs.Filled.{same-rows, filled-row, filled}
 use borrow.Author.Needs.{needs}
 use Rattle.reduce.proofs.write_leaf.Statement.{statement}

@@ -1,16 +1,15 @@
 -- Five runs of rows, one behind the other.
-use mathlib.Core.Path.{_≡_, refl, ap, sym, _∙_}
+use mathlib.Core.Path.{_≡_, ap, sym, _∙_}
 use native.Mathlib.Omega.{arith}
-use Prim.Native.Nat.{ℕ, _+_, _*_, _≤_, _<_, _-_}
-use mathlib.Core.List.{List, map}
-use lib.ListN.{length, getD, take, drop}
+use Prim.Native.Nat.{ℕ, _+_, _-_}
+use mathlib.Core.List.{List}
+use lib.ListN.{length, take, drop}
 use Rattle.layout.specs.Rows.{typeTable, rowTable}
 use Rattle.layout.proofs.Tables.{row-table-length}
-use Rattle.meaning.specs.Types.{formOf, elemOf}
+use Rattle.meaning.specs.Types.{formOf}
 use Rattle.meaning.specs.Terms.{nNo, typeNo}
 use Rattle.put.specs.Put.{standing}
 use Rattle.put.proofs.Loops.{standing-length}
-use Rattle.reduce.specs.Plan.{rowNo, pairRows}
 use Rattle.reduce.proofs.Filled.{same-rows, pair-filled, pair-length, pair-same, part-length}
 use borrow.Author.Needs.{needs}
 use Rattle.reduce.proofs.write_pair.Statement.{statement}

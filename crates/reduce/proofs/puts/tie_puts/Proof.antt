@@ -1,0 +1,51 @@
+-- The first name, and the whole as its term.
+use mathlib.Core.Path.{ap, sym, _∙_}
+use native.Mathlib.Omega.{arith}
+use Prim.Native.Nat.{ℕ, _≤_}
+use mathlib.Core.List.{List}
+use lib.ListN.{length, getD}
+use Rattle.layout.specs.Rows.{typeTable, rowTable}
+use Rattle.layout.proofs.Tables.{row-table-length}
+use Rattle.meaning.specs.Types.{formOf, params, names}
+use Rattle.meaning.specs.Terms.{typeNo}
+use Rattle.reduce.proofs.Bound.{some-bound}
+use Rattle.reduce.proofs.Given.{fix-more, tie-puts}
+use borrow.Author.Needs.{needs}
+use Rattle.reduce.proofs.puts.tie_puts.Statement.{statement}
+use Rattle.reduce.proofs.puts.tie_puts.Tie as tie
+
+row-of-requires : tie.Need-row-of-requires
+row-of-requires c κs =
+    let s = c .before .before in
+    let T = rowTable (s .args .rows .now) in
+    let R = s .pre .0 in
+    fix-more T (R .exact) (R .one) (s .pre .1 .0)
+
+param-name-requires : tie.Need-param-name-requires
+param-name-requires c κs =
+    let s = c .before .before .before in
+    let T = rowTable (s .args .rows .now) in
+    let R = s .pre .0 in
+    let F = formOf (typeTable (s .args .types .now)) in
+    let u = ap (λ (r : List ℕ). typeNo r) (c .row-of .ensures) in
+    omega (arith, some-bound _ (s .pre .1 .2), ap (λ (t : ℕ). length (params (F t))) u)
+
+term-rows-requires : tie.Need-term-rows-requires
+term-rows-requires c κs = search needs
+
+cast-n : tie.Need-cast-n
+cast-n c = search needs
+
+returns : tie.Need-returns
+returns c =
+    let s = c .before .before .before .before .before in
+    let T = rowTable (s .args .rows .now) in
+    let R = s .pre .0 in
+    let short : length T ≤ 2048 = omega (arith, R .few, row-table-length (s .args .rows .now)) in
+    let F = formOf (typeTable (s .args .types .now)) in
+    let u = ap (λ (r : List ℕ). typeNo r) (c .before .before .row-of .ensures) in
+    tie-puts T (R .exact) (R .one) short F (s .pre .1) _ _ _ _ (c .before .param-name .ensures ∙ ap (λ (t : ℕ). getD (names (params (F t))) 0 0) (sym u)) (c .term-rows .ensures ∙ sym (row-table-length (s .args .rows .now)))
+
+pub tie-puts-spec : {M : Type 1} → statement M
+tie-puts-spec =
+    tie.close (tie.spec row-of-requires param-name-requires term-rows-requires cast-n returns)
