@@ -6,3 +6,4 @@ pub mod LetterBytes
 pub mod GoingOn
 pub mod CallOut
 pub mod Tries
+pub mod EndTries

@@ -1,9 +1,12 @@
 -- A rule that is tried where the search has stopped, and one that is carried out. Assumes nothing.
 use Prim.Native.Nat.{ℕ}
 use mathlib.Core.Path.{_≡_}
+use mathlib.Core.Bool.{Bool}
 use mathlib.Core.List.{List}
 use mathlib.Core.Option.{none}
-use lib.ListN.{length}
+use lib.Dec.{eqb, ltb}
+use lib.ListN.{length, getD}
+use Rattle.meaning.specs.Bytes.{_∧ᵇ_}
 use Rattle.meaning.specs.Types.{Form}
 use Rattle.meaning.specs.Terms.{Tree, size}
 use Rattle.meaning.specs.Steps.{go}
@@ -38,3 +41,7 @@ pub record Going (form : ℕ → Form) (left right frames : List ℕ) (s : Stand
 pub record Makes (form : ℕ → Form) (left left′ right right′ : List ℕ) (s s′ : Stand) (old new : ℕ) : Type 0 where
   pub long : length right′ ≡ length right
   pub changed : (k : ℕ) (frames : List ℕ) (t : Tree) (h : Halted form k left right frames s t) (u : Tree) → own form k (h .tree) ≡ go none u → size (h .tree) ≡ old → Changed form k left′ right′ frames s′ (h .outer) u (h .rest)
+
+-- rows that begin with an application of a foreign function
+unfoldable pub callBy : List ℕ → Bool
+callBy rows = eqb (getD rows 0 0) 8 ∧ᵇ (ltb 8 (length rows) ∧ᵇ eqb (getD rows 8 0) 7)

@@ -15,7 +15,7 @@ ghost use Rattle.meaning.specs.Types.{Form, formOf};
 ghost use Rattle.meaning.specs.Terms.{Tree};
 ghost use Rattle.search.specs.Search.{Room};
 ghost use Rattle.runs.specs.Sites.{Whole, Passing, Halts, GoesOn, InRecord, CallsOut, Calling};
-ghost use Rattle.runs.specs.Tries.{Trying, Tries, Going, Makes};
+ghost use Rattle.runs.specs.Tries.{Trying, Tries, Going, Makes, callBy};
 ghost use Rattle.runs.specs.Going.{space, Begins, PutBack, letterFrom};
 
 // What a rule that is tried tells: it stays; it goes, with the rows of its tree and of the tree that it makes; it sends, with the rows of its tree.
@@ -208,5 +208,45 @@ fn make_here(kept: &mut [u8], work: &mut [u8], m: Limits, s: Stand, old: usize, 
         r: r + old - new,
         d: s.d,
         here: false,
+    }
+}
+
+// Whether rows begin with an application of a foreign function.
+fn is_call(rows: &[u8]) -> bool
+    requires { ⌜ 8 ≤ length (now rows) ⌝ }
+    ensures { λ b. ⌜ b ≡ callBy (now (rows .entry)) ⌝ }
+{
+    if rows[0] == 8 {
+        if 8 < rows.len() {
+            return rows[8] == 7;
+        }
+        return false;
+    }
+    false
+}
+
+// The rule of the frame whose trees are passed is tried: it comes last. A call is sent if all its arguments are values, as the frame's flag tells.
+fn try_end(kept: &[u8], frames: &[u32], m: Limits, s: Stand) -> Tried
+    requires { ⌜ (length (now kept) ≡ recordBytes (board m)) × (typeCount (now kept) ≤ m .types) × (s .here ≡ false) × (m .rows ≤ 2048) × (s .l ≤ m .rows) × ((work : List ℕ) × Trying (formOf (typesIn (now kept))) (space (board m) (now kept)) work (now frames) s × Room (space (board m) (now kept)) work (now frames) s) ⌝ }
+    ensures { λ x. ⌜ ((work : List ℕ) → Tries (formOf (typesIn (now (kept .entry)))) (space (board m) (now (kept .entry))) work (now (frames .entry)) s x) ⌝ }
+{
+    let l = s.l;
+    let d = s.d;
+    let f = frames[d - 1];
+    let i = search::row_in(f);
+    let n = l - i;
+    let p = layout::rows_at(m) + 8 * i;
+    let q = p + 8 * n;
+    if is_call(&kept[p..q]) {
+        if search::flag_in(f) {
+            return Tried::Sends(n);
+        }
+        return Tried::Stays;
+    }
+    let e = types_end(kept);
+    let o = reduce::count(&kept[20..e], &kept[p..q]);
+    match o {
+        Outcome::Stays => Tried::Stays,
+        Outcome::Goes(new) => Tried::Goes(n, new),
     }
 }
