@@ -1,5 +1,5 @@
 -- The rule of a frame at its end: its rows, whether it is a call, and what its flag tells. Assumes nothing.
-use Prim.Native.Nat.{ℕ, zero, suc, _+_, _*_, _-_, _<_, _≤_}
+use Prim.Native.Nat.{ℕ, zero, suc, _+_, _*_, _-_, _/_, _<_, _≤_}
 use mathlib.Core.Path.{_≡_, refl, ap, sym, _∙_, subst}
 use mathlib.Core.Bool.{Bool, true, false, false≢true}
 use mathlib.Core.List.{List, [], _∷_, _++_, map}
@@ -8,29 +8,31 @@ use native.Mathlib.Omega.{arith}
 use native.Mathlib.Decide.{decLt}
 use borrow.Author.Tests.{lt-ltb, le-ltb}
 use lib.Dec.{eqb, ltb}
-use lib.ListN.{length, getD, take, drop, length-take, length-drop}
+use lib.ListN.{length, getD, take, drop, length-take, length-drop, length-map}
 use Rattle.layout.specs.Rows.{rowTable, termRows}
 use Rattle.layout.proofs.Laws.{term-row}
-use Rattle.layout.proofs.Tables.{row-table-cut, row-table-at}
+use Rattle.layout.proofs.Tables.{row-table-cut, row-table-length, row-table-at}
 use Rattle.meaning.specs.Bytes.{_∧ᵇ_, reads, termRow}
 use Rattle.meaning.specs.Types.{Form}
 use Rattle.meaning.specs.Terms.{str, file, truth, Head, lit, var, lambda, foreign, apply, future, ite, fix, nil, cons, isnil, zip, tuple, project, lproject, bind, arity, code, wordOf, Tree, node, end, more, headOf, is, raw, kindNo, flat, flats, size, kids, treeOf}
 use Rattle.meaning.specs.Typing.{firstIs}
 use Rattle.meaning.specs.Steps.{Call, stay, go, contract}
 use Rattle.meaning.proofs.Trees.EachRow.{Every}
+use Rattle.meaning.proofs.Trees.Parse.{length-flat}
 use Rattle.meaning.proofs.Bytes.RowTables.{legal}
 use Rattle.terms.proofs.Scan.{size-some}
 use Rattle.search.specs.Frames.{spelled, Frame, below, passedRows, Stands, Passed}
-use Rattle.search.specs.Kept.{table, toCome, rowIn, flagIn, Held}
-use Rattle.search.specs.Search.{Searching}
+use Rattle.search.specs.Kept.{table, toCome, rowCount, rowIn, flagIn, Held}
+use Rattle.search.specs.Search.{Searching, Changed}
+use Rattle.search.proofs.Tables.{rows-before}
 use Rattle.search.specs.declared.Stand.{Stand}
 use Rattle.search.proofs.Frames.{call-left}
-use Rattle.reduce.specs.Rule.{Redex, told, sizeIf, ruleOf}
+use Rattle.reduce.specs.Rule.{Redex, quiet, told, sizeIf, rowsIf, ruleOf}
 use Rattle.reduce.specs.declared.Outcome.the-variants.{Stays, Goes}
-use Rattle.reduce.proofs.Quiet.{tree-is, redex-of}
+use Rattle.reduce.proofs.Quiet.{quiet-rule, tree-is, redex-of}
 use Rattle.runs.specs.Sites.{Site, at-end, own, Halted}
-use Rattle.runs.specs.Tries.{callBy}
-use Rattle.runs.proofs.Sites.{isCall, end-rows, end-at}
+use Rattle.runs.specs.Tries.{Trying, Going, Makes, callBy}
+use Rattle.runs.proofs.Sites.{isCall, end-rows, end-at, end-behind}
 use Rattle.runs.proofs.Tries.{in-range, told-stays, told-goes}
 
 -- whether a tree is a call is told by the kinds of its first two rows
@@ -160,3 +162,71 @@ module _ (form : ℕ → Form) (k : ℕ) (left right frames : List ℕ) (s : Sta
 
   pub call-flag : isCall (h .tree) ≡ true → (flagIn (getD frames (s .d - 1) 0) ≡ true → (c : Call) × (w : Tree) × (own form k (h .tree) ≡ go (some c) w)) × (flagIn (getD frames (s .d - 1) 0) ≡ false → own form k (h .tree) ≡ stay)
   call-flag q = flag-site (h .all .framesAround) (h .all .trees) (h .tree) (h .outer) (h .rest) (end-site form k left right frames s t h last) (h .all .search) q
+
+-- WHAT A RULE THAT COMES LAST MAKES
+rule-made : (form : ℕ → Form) (k : ℕ) (t u : Tree) → own form k t ≡ go none u → ruleOf form t ≡ some u
+unfolding own quiet
+rule-made form k (node h ty f) u g = sym (quiet-rule form k h ty f) ∙ ap quiet g
+
+module _ (form : ℕ → Form) (k : ℕ) (left right right′ frames : List ℕ) (s s′ : Stand) (t : Tree) (h : Halted form k left right frames s t) (last : s .here ≡ false) (u : Tree) (g : own form k (h .tree) ≡ go none u) (old : ℕ) (eo : size (h .tree) ≡ old)
+    (x : List ℕ) (ex : x ≡ take (8 * old) (drop (8 * (s .l - old)) left)) (room : 8 * s .l ≤ length left) where
+  row-is : s .l - old ≡ rowIn (getD frames (s .d - 1) 0)
+  row-is = omega (arith, end-all form k left right frames s t h last .0, end-row form k left right frames s t h last .0, eo)
+
+  old-fits : old ≡ s .l - (s .l - old)
+  old-fits = omega (arith, end-all form k left right frames s t h last .0, eo)
+
+  pub last-table : rowTable x ≡ map raw (flat (h .tree))
+  last-table = end-table form k left right frames s t h last (s .l - old) old x row-is old-fits ex room
+
+  pub last-made-rows : rowsIf (ruleOf form (treeOf (termRows x))) ≡ map raw (flat u)
+  unfolding rowsIf
+  last-made-rows = ap (λ (y : Tree). rowsIf (ruleOf form y)) (tree-is x (h .tree) last-table) ∙ ap rowsIf (rule-made form k (h .tree) u g)
+
+  pub last-made : (to : List ℕ) (new : ℕ) → size u ≡ new → s .r ≤ rowCount right → new ≤ s .r → s′ .l ≡ s .l - old → s′ .d ≡ s .d - 1 → s′ .r ≡ s .r - new → rowTable to ≡ map raw (flat u) → length to ≡ 8 * new
+      → right′ ≡ take (8 * (s .r - new)) right ++ (to ++ drop (8 * (s .r - new) + 8 * new) right) → Changed form k left right′ frames s′ (h .outer) u (h .rest)
+  unfolding spelled
+  last-made to new en ends fits el ed er rows lt e =
+      let z : s .r - new + new ≡ s .r = omega (arith, fits) in
+      let n : length to / 8 ≡ new = omega (arith, lt) in
+      let made : reads termRow new to ≡ map raw (flat u) = ap (λ (i : ℕ). reads termRow i to) (sym n) ∙ rows in
+      let all = end-all form k left right frames s t h last in
+      let q = rows-before right to right′ (s .r - new) new e (omega (arith, z, ends)) lt (flat u) (spelled (h .rest)) made (ap (toCome right) z ∙ all .2) in
+      end-behind form k left left right right′ frames s s′ (h .all .framesAround) (h .all .trees) (h .tree) u (h .outer) (h .rest) (end-site form k left right frames s t h last) (h .all .search) (el ∙ row-is ∙ end-row form k left right frames s t h last .0) ed (ap (toCome right′) er ∙ q)
+
+-- the rows lent to a rule that goes
+module _ (form : ℕ → Form) (left right frames : List ℕ) (s : Stand) (old new : ℕ) (last : s .here ≡ false) (room : 8 * s .l ≤ length left) (g : Going form left right frames s old new) where
+  abbrev T : Trying form left right frames s
+  T = g .trying
+
+  pub ending-fits : old ≤ s .l
+  ending-fits = omega (arith, g .rows, end-all form (T .number) left right frames s (T .whole) (T .halted) last .0)
+
+  pub ending-some : 0 < new
+  ending-some = omega (arith, g .made-rows, size-some (g .made))
+
+  pub ending-deep : 0 < s .d
+  ending-deep = end-row form (T .number) left right frames s (T .whole) (T .halted) last .1
+
+  pub ending-redex : (x : List ℕ) → x ≡ take (8 * old) (drop (8 * (s .l - old)) left) → old ≤ 2048 → Redex x
+  ending-redex x e few =
+      end-redex form (T .number) left right frames s (T .whole) (T .halted) last (s .l - old) old x (row-is form (T .number) left right right frames s s (T .whole) (T .halted) last (g .made) (g .goes) old (g .rows) x e room)
+      (old-fits form (T .number) left right right frames s s (T .whole) (T .halted) last (g .made) (g .goes) old (g .rows) x e room) e room (T .count) (T .in-range) few
+
+  pub ending-rows : (x : List ℕ) → x ≡ take (8 * old) (drop (8 * (s .l - old)) left) → length (rowsIf (ruleOf form (treeOf (termRows x)))) ≡ new
+  ending-rows x e =
+      ap length (last-made-rows form (T .number) left right right frames s s (T .whole) (T .halted) last (g .made) (g .goes) old (g .rows) x e room)
+      ∙ length-map (flat (g .made)) raw ∙ length-flat (g .made) ∙ g .made-rows
+
+pub end-makes : (form : ℕ → Form) (left right right′ to x : List ℕ) (s s′ : Stand) (old new : ℕ) → s .here ≡ false → 8 * s .l ≤ length left → s .r ≤ rowCount right → new ≤ s .r → s′ .l ≡ s .l - old → s′ .d ≡ s .d - 1 → s′ .r ≡ s .r - new
+    → x ≡ take (8 * old) (drop (8 * (s .l - old)) left) → rowTable to ≡ rowsIf (ruleOf form (treeOf (termRows x))) → length to ≡ 8 * new
+    → right′ ≡ take (8 * (s .r - new)) right ++ (to ++ drop (8 * (s .r - new) + 8 * new) right) → length right′ ≡ length right
+    → Makes form left left right right′ s s′ old new
+end-makes form left right right′ to x s s′ old new last room ends fits el ed er ex rows lt e n =
+    record {
+      long = n;
+      changed = λ k frames t h u g eo.
+          let made = rows ∙ last-made-rows form k left right right′ frames s s′ t h last u g old eo x ex room in
+          let count : size u ≡ new = sym (length-flat u) ∙ sym (length-map (flat u) raw) ∙ ap length (sym made) ∙ row-table-length to ∙ omega (arith, lt) in
+          last-made form k left right right′ frames s s′ t h last u g old eo x ex room to new count ends fits el ed er made lt e;
+    }

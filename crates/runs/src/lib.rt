@@ -250,3 +250,24 @@ fn try_end(kept: &[u8], frames: &[u32], m: Limits, s: Stand) -> Tried
         Outcome::Goes(new) => Tried::Goes(n, new),
     }
 }
+
+// A tree of old rows at the end of the rows passed becomes one of new rows, before the rows to come.
+fn make_end(kept: &[u8], work: &mut [u8], m: Limits, s: Stand, old: usize, new: usize) -> Stand
+    requires { ⌜ (length (now kept) ≡ recordBytes (board m)) × (typeCount (now kept) ≤ m .types) × (s .here ≡ false) × (m .rows ≤ 2048) × (s .l ≤ m .rows) × ((frames : List ℕ) × Room (space (board m) (now kept)) (now work) frames s × (new ≤ s .r) × Going (formOf (typesIn (now kept))) (space (board m) (now kept)) (now work) frames s old new) ⌝ }
+    ensures { λ e. ⌜ Makes (formOf (typesIn (now (kept .entry)))) (space (board m) (now (kept .entry))) (space (board m) (now (kept .entry))) (now (work .entry)) (now (work .exit)) s e old new ⌝ }
+{
+    let l = s.l;
+    let r = s.r;
+    let e = types_end(kept);
+    let p = layout::rows_at(m) + 8 * (l - old);
+    let q = p + 8 * old;
+    let a = 8 * (r - new);
+    let b = a + 8 * new;
+    reduce::reduce(&kept[20..e], &kept[p..q], &mut work[a..b]);
+    Stand {
+        l: l - old,
+        r: r - new,
+        d: s.d - 1,
+        here: false,
+    }
+}
