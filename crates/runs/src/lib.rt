@@ -271,3 +271,15 @@ fn make_end(kept: &[u8], work: &mut [u8], m: Limits, s: Stand, old: usize, new: 
         here: false,
     }
 }
+
+// The rule where the search has stopped is tried.
+fn try_rule(kept: &[u8], work: &[u8], frames: &[u32], m: Limits, s: Stand) -> Tried
+    requires { ⌜ (length (now kept) ≡ recordBytes (board m)) × (typeCount (now kept) ≤ m .types) × (m .rows ≤ 2048) × (s .l + (rowCount (now work) - s .r) ≤ m .rows) × Trying (formOf (typesIn (now kept))) (space (board m) (now kept)) (now work) (now frames) s × Room (space (board m) (now kept)) (now work) (now frames) s ⌝ }
+    ensures { λ x. ⌜ Tries (formOf (typesIn (now (kept .entry)))) (space (board m) (now (kept .entry))) (now (work .entry)) (now (frames .entry)) s x ⌝ }
+{
+    let here = s.here;
+    if here {
+        return try_here(kept, work, s);
+    }
+    try_end(kept, frames, m, s)
+}
