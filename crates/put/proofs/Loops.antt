@@ -5,7 +5,7 @@ use mathlib.Core.List.{List, [], _∷_, _++_, map, append-assoc, append-nil}
 use mathlib.Core.Option.{Option, none, some}
 use native.Mathlib.Omega.{arith}
 use native.Mathlib.Numerals.{add-one}
-use lib.ListN.{length, getD, take, drop, length-append, length-take, length-drop, length-map, List·getD-map}
+use lib.ListN.{length, getD, take, drop, length-append, length-drop, length-map, List·getD-map}
 use lib.Seq.{drop-cons, take-at, take-all, length-take-le}
 use Rattle.meaning.specs.Types.{Form}
 use Rattle.meaning.specs.Terms.{arity, Row, rowOf, size, sizes, treeAt, grove}

@@ -1,13 +1,13 @@
 -- The rows that code counts and writes are those of the body with the arguments put for the names. Assumes nothing.
-use Prim.Native.Nat.{ℕ, zero, suc, _+_, _*_, _-_, _≤_, _<_}
+use Prim.Native.Nat.{ℕ, zero, suc, _+_, _-_, _≤_, _<_}
 use mathlib.Core.Path.{_≡_, refl, ap, sym, _∙_}
 use mathlib.Core.List.{List, [], _∷_, _++_, map, append-nil}
 use native.Mathlib.Omega.{arith}
 use lib.ListN.{length, getD, take, drop, length-drop, length-map, take-append-drop}
 use Rattle.meaning.specs.Types.{Param, Form, names}
-use Rattle.meaning.specs.Terms.{Tree, Forest, node, end, more, Row, flat, flats, size, sizes, raw, rowOf, kids, trees, top, treeAt, blank}
+use Rattle.meaning.specs.Terms.{Tree, Forest, Row, flat, flats, size, sizes, raw, rowOf, kids, trees, top, treeAt, blank}
 use Rattle.meaning.specs.Steps.{assign, put}
-use Rattle.meaning.proofs.Trees.Parse.{kids-rows, length-flat}
+use Rattle.meaning.proofs.Trees.Parse.{kids-rows}
 use Rattle.put.specs.Put.{standing, run, argRows, putRows}
 use Rattle.put.proofs.Passing.{tree, pass-puts}
 
@@ -60,6 +60,3 @@ module _ (l : List (List ℕ)) (exact : map raw (map rowOf l) ≡ l) where
         let e : drop body l ≡ map raw (flat (treeAt L body)) ++ drop k (drop body l) = sym (take-append-drop k (drop body l)) ∙ ap (λ (x : List (List ℕ)). x ++ drop k (drop body l)) s in
         ap (λ (x : List (List ℕ)). run form (take n (names ps)) (argRows l bounds) x (0 ∷ [])) e
         ∙ pass-puts form ps f (argRows l bounds) args (treeAt L body) (drop k (drop body l))
-
-    pub size-put : length (putRows form l body (take n (names ps)) bounds) ≡ size (put form (assign ps f) (treeAt L body))
-    size-put = ap length rows-put ∙ length-map (flat (put form (assign ps f) (treeAt L body))) raw ∙ length-flat (put form (assign ps f) (treeAt L body))

@@ -1,17 +1,16 @@
 -- The pass over a tree's rows writes the rows of the tree with the names put. Assumes nothing.
-use Prim.Native.Nat.{ℕ, zero, suc, _+_, _*_, _-_, _≤_, _<_, _/_, _%_}
+use Prim.Native.Nat.{ℕ, zero, suc, _+_, _*_, _<_, _%_}
 use mathlib.Core.Path.{_≡_, refl, ap, sym, _∙_}
 use mathlib.Core.Bool.{Bool, true, false, cond}
 use mathlib.Core.List.{List, [], _∷_, _++_, map, append-assoc, append-nil, map-append}
 use mathlib.Core.Option.{Option, none, some}
 use native.Mathlib.Omega.{arith}
 use lib.Dec.{eqb}
-use lib.ListN.{length, getD, take, drop, length-map}
+use lib.ListN.{length, take}
 use borrow.Author.Tests.{eqb-true}
 use Rattle.meaning.specs.Types.{Param, Form, params, names, find, low, rest}
-use Rattle.meaning.specs.Terms.{str, file, truth, Head, lit, var, lambda, foreign, apply, future, ite, fix, nil, cons, isnil, zip, tuple, project, lproject, bind, arity, code, wordOf, Tree, Forest, node, end, more, Row, flat, flats, size, raw, rowOf, blank}
+use Rattle.meaning.specs.Terms.{str, file, truth, Head, lit, var, lambda, foreign, apply, future, ite, fix, nil, cons, isnil, zip, tuple, project, lproject, bind, arity, code, wordOf, Tree, Forest, node, end, more, Row, flat, flats, raw, rowOf, blank}
 use Rattle.meaning.proofs.Trees.Tests.{none-some}
-use Rattle.meaning.proofs.Trees.Parse.{length-flat}
 use Rattle.meaning.proofs.Bytes.RowTables.{row-raw}
 use Rattle.meaning.specs.Typing.{Tys, ⟨⟩, _▹_, tys, scope}
 use Rattle.meaning.specs.Steps.{_∨ᵇ_, Sub, veil, hide, swap, hit, assign, put, puts}
@@ -236,8 +235,3 @@ pass-puts {n} form ps f args same t rs =
     run-same form (take n (names ps)) args (λ j. map raw (flat (tree f j))) same (map raw (flat t) ++ rs) (0 ∷ [])
     ∙ run-tree form (take n (names ps)) (tree f) t (assign ps f) 0 [] rs (assign-picks ps f)
     ∙ rw (run-none form (take n (names ps)) (λ j. map raw (flat (tree f j))) rs) (append-nil _)
-
--- as many as the tree has
-pub pass-size : {n : ℕ} (form : ℕ → Form) (ps : List Param) (f : Forest n) (args : ℕ → List (List ℕ)) → ((j : ℕ) → j < length (take n (names ps)) → args j ≡ map raw (flat (tree f j))) → (t : Tree) (rs : List (List ℕ))
-    → length (run form (take n (names ps)) args (map raw (flat t) ++ rs) (0 ∷ [])) ≡ size (put form (assign ps f) t)
-pass-size form ps f args same t rs = ap length (pass-puts form ps f args same t rs) ∙ length-map (flat (put form (assign ps f) t)) raw ∙ length-flat (put form (assign ps f) t)

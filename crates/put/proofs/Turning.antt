@@ -2,16 +2,16 @@
 use Prim.Native.Nat.{ℕ, zero, suc, _+_, _*_, _-_, _≤_, _<_, _/_, _%_}
 use mathlib.Core.Path.{_≡_, refl, ap, sym, _∙_}
 use mathlib.Core.Bool.{Bool, true, false, cond}
-use mathlib.Core.List.{List, [], _∷_, _++_, append-assoc, append-nil}
+use mathlib.Core.List.{List, [], _∷_}
 use mathlib.Core.Option.{Option, none, some}
 use native.Mathlib.Omega.{arith}
 use native.Mathlib.Numerals.{add-one}
 use lib.Dec.{eqb}
-use lib.ListN.{length, getD, set, take, drop, drop-of-length-le, length-drop, length-append, length-set}
+use lib.ListN.{length, getD, set, drop, drop-of-length-le, length-drop, length-set}
 use lib.Seq.{drop-cons, getD-set-same, getD-set-other}
-use borrow.Author.Tests.{eqb-true, eq-eqb, ne-eqb}
-use Rattle.meaning.specs.Types.{Param, Form, params, find, low, rest}
-use Rattle.meaning.specs.Terms.{Head, lit, var, lambda, bind, arity, code, wordOf, headFrom, Tree, Row, rowOf, size, sizes, treeAt, grove}
+use borrow.Author.Tests.{eq-eqb, ne-eqb}
+use Rattle.meaning.specs.Types.{Form, params, find, low, rest}
+use Rattle.meaning.specs.Terms.{arity, code, wordOf, headFrom, Row}
 use Rattle.meaning.specs.Steps.{_∨ᵇ_}
 use Rattle.terms.specs.Masks.{bit}
 use Rattle.terms.proofs.ByNumber.{kind-told}

@@ -6,8 +6,8 @@ use mathlib.Core.List.{List, [], _∷_, _++_, map}
 use mathlib.Core.Option.{Option, none, some}
 use lib.Dec.{eqb}
 use lib.ListN.{length, getD, take, drop}
-use Rattle.meaning.specs.Types.{Param, Form, params, find, low, rest}
-use Rattle.meaning.specs.Terms.{Head, arity, code, wordOf, Row, rowOf, size, sizes, treeAt, grove}
+use Rattle.meaning.specs.Types.{Form, params, find, low, rest}
+use Rattle.meaning.specs.Terms.{Head, arity, code, wordOf, Row, rowOf, size, treeAt}
 use Rattle.meaning.specs.Steps.{_∨ᵇ_}
 
 unfoldable pub next : Option ℕ → Option ℕ

@@ -5,7 +5,7 @@ use rules::names::Named;
 ghost use mathlib.Core.Path.{_≡_};
 ghost use mathlib.Core.List.{_++_};
 ghost use Prim.Native.Nat.{_+_, _*_, _-_, _≤_, _<_};
-ghost use lib.ListN.{length, getD, set, take, drop};
+ghost use lib.ListN.{length, set, take, drop};
 ghost use Rattle.layout.specs.Rows.{numbers, found, typeTable, rowTable};
 ghost use Rattle.meaning.specs.Types.{formOf, find, params};
 ghost use Rattle.meaning.specs.Terms.{arity, rowOf};

@@ -1,6 +1,6 @@
 -- By the row's kind.
 use Prim.Native.Nat.{ℕ}
-use mathlib.Core.Path.{_≡_, ap, sym, _∙_}
+use mathlib.Core.Path.{ap, sym, _∙_}
 use lib.Dec.{eqb}
 use Rattle.layout.specs.Rows.{typeTable}
 use Rattle.meaning.specs.Types.{formOf, find, params}

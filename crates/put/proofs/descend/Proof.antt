@@ -1,10 +1,10 @@
 -- A leaf owes nothing, a binder's last tree gets its own mask, any other row's trees get the row's. The loop's invariant: those written so far.
-use mathlib.Core.Path.{_≡_, refl, ap, sym, _∙_}
-use Prim.Native.Nat.{ℕ, _≤_, _<_, _+_, _*_, _-_}
+use mathlib.Core.Path.{_≡_, refl, sym, _∙_}
+use Prim.Native.Nat.{_≤_, _-_}
 use native.Mathlib.Omega.{arith}
-use lib.ListN.{length, getD, length-set}
+use lib.ListN.{getD, length-set}
 use borrow.Author.Needs.{needs}
-use Rattle.meaning.specs.Terms.{rowOf, arity}
+use Rattle.meaning.specs.Terms.{rowOf}
 use Rattle.layout.specs.Rows.{typeTable}
 use Rattle.meaning.specs.Types.{formOf}
 use Rattle.put.proofs.Turning.{Copies, copies-start, copies-more, let-two, step-leaf, step-fun, step-let, step-other}

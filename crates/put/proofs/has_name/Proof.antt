@@ -1,5 +1,5 @@
 -- By the name's type, if it has one.
-use mathlib.Core.Path.{_≡_, ap, sym, _∙_}
+use mathlib.Core.Path.{ap, sym, _∙_}
 use borrow.Author.Needs.{needs}
 use Rattle.rules.specs.Named.{named}
 use Rattle.put.proofs.Turning.{told-yes, told-no}

@@ -1,5 +1,5 @@
 -- By the mask's bit, else by what the row binds.
-use mathlib.Core.Path.{_≡_, refl, ap, sym, _∙_}
+use mathlib.Core.Path.{sym, _∙_}
 use Rattle.put.proofs.Turning.{or-left, or-right}
 use borrow.Author.Needs.{needs}
 use Rattle.put.proofs.hides.Statement.{statement}

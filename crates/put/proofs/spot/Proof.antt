@@ -1,5 +1,5 @@
 -- By the row's kind, and by the place of its name.
-use mathlib.Core.Path.{_≡_, refl, ap, sym, _∙_}
+use mathlib.Core.Path.{ap, sym, _∙_}
 use native.Mathlib.Omega.{arith}
 use Rattle.meaning.specs.Terms.{rowOf}
 use Rattle.layout.specs.Rows.{found}

@@ -1,16 +1,15 @@
 -- The loop's invariant: the rows written and those left to write are all.
-use mathlib.Core.Path.{_≡_, refl, ap, sym, _∙_}
+use mathlib.Core.Path.{_≡_, refl, sym, _∙_}
 use mathlib.Core.List.{_++_}
-use Prim.Native.Nat.{ℕ, _≤_, _<_, _+_, _*_, _-_}
+use Prim.Native.Nat.{ℕ, _+_, _-_}
 use native.Mathlib.Omega.{arith}
 use lib.ListN.{length, take, length-replicate}
-use borrow.Author.Needs.{needs}
 use Rattle.layout.specs.Rows.{typeTable, rowTable}
 use Rattle.layout.proofs.Tables.{row-table-length}
 use Rattle.meaning.specs.Types.{formOf}
 use Rattle.put.specs.Put.{putRows}
 use Rattle.put.proofs.Rows.{row-read, row-in}
-use Rattle.put.proofs.Loops.{Going, left, going-start, written-start, going-end, written-end, going-in, going-room, copied-span, going-next, going-fits, written-next}
+use Rattle.put.proofs.Loops.{Going, left, going-start, written-start, written-end, going-in, going-room, copied-span, going-next, going-fits, written-next}
 use Rattle.put.proofs.write_put.Statement.{statement}
 use Rattle.put.proofs.write_put.Tie as tie
 
