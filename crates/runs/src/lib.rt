@@ -283,3 +283,15 @@ fn try_rule(kept: &[u8], work: &[u8], frames: &[u32], m: Limits, s: Stand) -> Tr
     }
     try_end(kept, frames, m, s)
 }
+
+// The rule where the search has stopped stays, and the search goes on.
+fn stay_on(kept: &mut [u8], work: &[u8], frames: &mut [u32], m: Limits, s: Stand) -> Stand
+    requires { ⌜ (length (now kept) ≡ recordBytes (board m)) × Room (space (board m) (now kept)) (now work) (now frames) s × ((form : ℕ → Form) × (k : ℕ) × (t : Tree) × Passing form k (space (board m) (now kept)) (now work) (now frames) s t) ⌝ }
+    ensures { λ e. ⌜ InRecord (board m) (now (kept .entry)) (now (kept .exit)) × GoesOn (space (board m) (now (kept .entry))) (space (board m) (now (kept .exit))) (now (work .entry)) (now (frames .entry)) (now (frames .exit)) s e ⌝ }
+{
+    let here = s.here;
+    if here {
+        return stay_here(kept, work, frames, m, s);
+    }
+    stay_end(kept, frames, m, s)
+}
