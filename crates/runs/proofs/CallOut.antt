@@ -29,7 +29,7 @@ use Rattle.runs.proofs.Sites.{end-rows, end-at, end-behind, site-goes}
 use Rattle.runs.proofs.LetterBytes.{call-width}
 use Rattle.runs.proofs.Letter.{letter-told, future-told, call-long, many}
 
-come-length : (right : List ℕ) (r : ℕ) → length (toCome right r) ≡ rowCount right - r
+pub come-length : (right : List ℕ) (r : ℕ) → length (toCome right r) ≡ rowCount right - r
 unfolding toCome
 come-length right r = table-length right (8 * r) (rowCount right - r)
 

@@ -7,3 +7,4 @@ pub mod GoingOn
 pub mod CallOut
 pub mod Tries
 pub mod EndTries
+pub mod Steps

@@ -1,20 +1,22 @@
 -- A rule that is tried where the search has stopped, and one that is carried out. Assumes nothing.
-use Prim.Native.Nat.{ℕ}
+use Prim.Native.Nat.{ℕ, _+_, _-_}
 use mathlib.Core.Path.{_≡_}
 use mathlib.Core.Bool.{Bool}
-use mathlib.Core.List.{List}
+use mathlib.Core.List.{List, _∷_}
 use mathlib.Core.Option.{none}
 use lib.Dec.{eqb, ltb}
 use lib.ListN.{length, getD}
 use Rattle.meaning.specs.Bytes.{_∧ᵇ_}
 use Rattle.meaning.specs.Types.{Form}
-use Rattle.meaning.specs.Terms.{Tree, size}
+use Rattle.meaning.specs.Terms.{Tree, size, top}
 use Rattle.meaning.specs.Steps.{go}
 use Rattle.meaning.proofs.Trees.EachRow.{Every}
 use Rattle.meaning.proofs.Bytes.RowTables.{legal}
-use Rattle.search.specs.Search.{Changed}
+use Rattle.search.specs.Frames.{around}
+use Rattle.search.specs.Kept.{rowCount}
+use Rattle.search.specs.Search.{Room, Changed}
 use Rattle.search.specs.declared.Stand.{Stand}
-use Rattle.runs.specs.Sites.{Halted, own, Tells}
+use Rattle.runs.specs.Sites.{Whole, Halted, own, Tells}
 use Rattle.runs.specs.declared.Tried.{Tried}
 
 -- the search has stopped in a whole all of whose rows are in range
@@ -41,6 +43,13 @@ pub record Going (form : ℕ → Form) (left right frames : List ℕ) (s : Stand
 pub record Makes (form : ℕ → Form) (left left′ right right′ : List ℕ) (s s′ : Stand) (old new : ℕ) : Type 0 where
   pub long : length right′ ≡ length right
   pub changed : (k : ℕ) (frames : List ℕ) (t : Tree) (h : Halted form k left right frames s t) (u : Tree) → own form k (h .tree) ≡ go none u → size (h .tree) ≡ old → Changed form k left′ right′ frames s′ (h .outer) u (h .rest)
+
+-- and the search is set where it goes on: the new whole has the rows of the old one, but for the tree's
+pub record Steps (form : ℕ → Form) (left left′ right right′ frames : List ℕ) (s s′ : Stand) (old new : ℕ) : Type 0 where
+  pub long : length right′ ≡ length right
+  pub room : Room left′ right′ frames s′
+  pub total : s′ .l + (rowCount right′ - s′ .r) + old ≡ s .l + (rowCount right - s .r) + new
+  pub reached : (k : ℕ) (t : Tree) (h : Halted form k left right frames s t) (u : Tree) → own form k (h .tree) ≡ go none u → size (h .tree) ≡ old → Whole form k left′ right′ frames s′ (top (around (h .outer) (u ∷ h .rest)))
 
 -- rows that begin with an application of a foreign function
 unfoldable pub callBy : List ℕ → Bool

@@ -15,7 +15,7 @@ ghost use Rattle.meaning.specs.Types.{Form, formOf};
 ghost use Rattle.meaning.specs.Terms.{Tree};
 ghost use Rattle.search.specs.Search.{Room};
 ghost use Rattle.runs.specs.Sites.{Whole, Passing, Halts, GoesOn, InRecord, CallsOut, Calling};
-ghost use Rattle.runs.specs.Tries.{Trying, Tries, Going, Makes, callBy};
+ghost use Rattle.runs.specs.Tries.{Trying, Tries, Going, Makes, Steps, callBy};
 ghost use Rattle.runs.specs.Going.{space, Begins, PutBack, letterFrom};
 
 // What a rule that is tried tells: it stays; it goes, with the rows of its tree and of the tree that it makes; it sends, with the rows of its tree.
@@ -294,4 +294,32 @@ fn stay_on(kept: &mut [u8], work: &[u8], frames: &mut [u32], m: Limits, s: Stand
         return stay_here(kept, work, frames, m, s);
     }
     stay_end(kept, frames, m, s)
+}
+
+// The rows of a tree that reduces, and of the tree that its rule makes.
+pub struct Change {
+    pub old: usize,
+    pub new: usize,
+}
+
+// The rule where the search has stopped is carried out.
+fn make_rule(kept: &mut [u8], work: &mut [u8], m: Limits, s: Stand, c: Change) -> Stand
+    requires { ⌜ (length (now kept) ≡ recordBytes (board m)) × (typeCount (now kept) ≤ m .types) × (m .rows ≤ 2048) × (s .l + (rowCount (now work) - s .r) ≤ m .rows) × (m .rows + 2 ≤ rowCount (now work)) × (s .l + (rowCount (now work) - s .r) + c .new ≤ m .rows + c .old) × ((frames : List ℕ) × Room (space (board m) (now kept)) (now work) frames s × Going (formOf (typesIn (now kept))) (space (board m) (now kept)) (now work) frames s (c .old) (c .new)) ⌝ }
+    ensures { λ e. ⌜ InRecord (board m) (now (kept .entry)) (now (kept .exit)) × Makes (formOf (typesIn (now (kept .entry)))) (space (board m) (now (kept .entry))) (space (board m) (now (kept .exit))) (now (work .entry)) (now (work .exit)) s e (c .old) (c .new) ⌝ }
+{
+    let here = s.here;
+    if here {
+        return make_here(kept, work, m, s, c.old, c.new);
+    }
+    make_end(kept, work, m, s, c.old, c.new)
+}
+
+// A step: the rule where the search has stopped is carried out, and the search goes on at the new tree, or at the row around it if nothing else of that was passed.
+fn step(kept: &mut [u8], work: &mut [u8], frames: &[u32], m: Limits, s: Stand, c: Change) -> Stand
+    requires { ⌜ (length (now kept) ≡ recordBytes (board m)) × (typeCount (now kept) ≤ m .types) × (m .rows ≤ 2048) × (s .l + (rowCount (now work) - s .r) ≤ m .rows) × (m .rows + 2 ≤ rowCount (now work)) × (s .l + (rowCount (now work) - s .r) + c .new ≤ m .rows + c .old) × (m .rows ≤ length (now frames)) × Room (space (board m) (now kept)) (now work) (now frames) s × Going (formOf (typesIn (now kept))) (space (board m) (now kept)) (now work) (now frames) s (c .old) (c .new) ⌝ }
+    ensures { λ e. ⌜ InRecord (board m) (now (kept .entry)) (now (kept .exit)) × Steps (formOf (typesIn (now (kept .entry)))) (space (board m) (now (kept .entry))) (space (board m) (now (kept .exit))) (now (work .entry)) (now (work .exit)) (now (frames .entry)) s e (c .old) (c .new) ⌝ }
+{
+    let e = make_rule(kept, work, m, s, c);
+    let at = layout::rows_at(m);
+    search::back_up(&kept[at..], work, frames, e)
 }

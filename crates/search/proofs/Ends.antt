@@ -32,28 +32,29 @@ closed-long F ts n c e h = omega (arith, c, e, length-append (F .before) ts, len
 
 -- THE WHOLE has the rows passed and the rows to come
 module _ (form : ℕ → Form) (k : ℕ) (frames : List ℕ) where
-  whole-rows : (d : ℕ) (Fs : List Frame) (ts : List Tree) → Held frames d Fs → length ts ≡ owing Fs → Passed form k Fs ts → passedRows Fs ++ spelled ts ≡ flat (top (around Fs ts))
+  -- also with other trees to come than those that were passed by
+  pub whole-rows : (d : ℕ) (Fs : List Frame) (ts us : List Tree) → Held frames d Fs → length ts ≡ owing Fs → Passed form k Fs us → passedRows Fs ++ spelled ts ≡ flat (top (around Fs ts))
   unfolding passedRows owing Passed Held around spelled top
-  whole-rows zero [] [] h c p = absurd (omega (arith, c))
-  whole-rows zero [] (t ∷ []) h c p = append-nil (flat t)
-  whole-rows zero [] (t ∷ u ∷ ts) h c p = absurd (omega (arith, c))
-  whole-rows zero (F ∷ Fs) ts h c p = absurd h
-  whole-rows (suc d) [] ts h c p = absurd h
-  whole-rows (suc d) (F ∷ Fs) ts (e, h) c (_, o, p) =
+  whole-rows zero [] [] us h c p = absurd (omega (arith, c))
+  whole-rows zero [] (t ∷ []) us h c p = append-nil (flat t)
+  whole-rows zero [] (t ∷ u ∷ ts) us h c p = absurd (omega (arith, c))
+  whole-rows zero (F ∷ Fs) ts us h c p = absurd h
+  whole-rows (suc d) [] ts us h c p = absurd h
+  whole-rows (suc d) (F ∷ Fs) ts us (e, h) c (_, o, p) =
       let long = length-append (F .before) ts in
-      let some = owing-some Fs (close F ts) o in
+      let some = owing-some Fs (close F us) o in
       let n : length (close F ts) ≡ owing Fs = closed-long F ts (owing Fs) c (omega (arith, e .owes)) some in
       append-assoc (passedRows Fs) (rowOfFrame F ∷ spelled (F .before)) (spelled ts)
       ∙ ap (λ (l : List Row). passedRows Fs ++ (rowOfFrame F ∷ l)) (sym (spelled-append (F .before) ts))
       ∙ ap (λ (l : List Row). passedRows Fs ++ l) (sym (spelled-close F ts (omega (arith, c, e .owes, long))))
-      ∙ whole-rows d Fs (close F ts) h n p
+      ∙ whole-rows d Fs (close F ts) (close F us) h n p
 
 module _ (form : ℕ → Form) (k : ℕ) (left right frames : List ℕ) (s : Stand) where
   abbrev At : List Frame → List Tree → Type 0
   At Fs ts = Searching form k left right frames s Fs ts
 
   pub all-rows : (Fs : List Frame) (ts : List Tree) → At Fs ts → table left 0 (s .l) ++ toCome right (s .r) ≡ map raw (flat (top (around Fs ts)))
-  all-rows Fs ts x = cc (x .kept .rows, x .coming) ∙ sym (map-append raw (passedRows Fs) (spelled ts)) ∙ ap (map raw) (whole-rows form k frames (s .d) Fs ts (x .kept .held) (x .count) (x .passed))
+  all-rows Fs ts x = cc (x .kept .rows, x .coming) ∙ sym (map-append raw (passedRows Fs) (spelled ts)) ∙ ap (map raw) (whole-rows form k frames (s .d) Fs ts ts (x .kept .held) (x .count) (x .passed))
 
   -- A ROW WHOSE OWN RULE IS TRIED: if it goes, so does the whole
   pub here-goes : (Fs : List Frame) (h : Head) (u : ℕ) (f : Forest (arity h)) (ts : List Tree) (c : Option Call) (t : Tree) → At Fs (node h u f ∷ ts) → Open Fs (node h u f ∷ ts) → waits h f ≡ false
