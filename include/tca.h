@@ -46,8 +46,12 @@ extern "C" {
 #define TCA_RECORD_ROW_COUNT 8   /* where a record has its row count, u16 */
 #define TCA_RECORD_ROWS 9748     /* where a record has its rows */
 
-/* A work buffer, lent to tca_reply: always exactly this long. */
+/* A work buffer, lent to tca_run and tca_reply: always exactly this long. */
 #define TCA_WORK_BYTES 16400
+
+/* A call that a run has sent, at the start of the work buffer: a head (number u32, tool u32, row count u16 of all
+ * arguments, result type u16), then the argument rows. Numbers are little-endian here as everywhere. */
+#define TCA_CALL_HEAD_BYTES 12
 
 /* A reply: a head (number u32, row count u16, two zero bytes), then the rows of the value. */
 #define TCA_REPLY_HEAD_BYTES 8
@@ -76,7 +80,7 @@ enum tca_refusal {
     TCA_FUTURE = 8,   /* a future, which no program may hold; with its place */
     TCA_TYPING = 9,   /* a row that fails typing; with its place */
 
-    /* What tca_reply gives next. */
+    /* What tca_run and tca_reply give next. */
     TCA_UNSOUND = 10, /* the record is not sound */
 
     /* What tca_reply gives, in this order. */
@@ -88,11 +92,30 @@ enum tca_refusal {
     TCA_REPLY_ROOM = 16    /* the term would pass TCA_MAX_RECORD_ROWS rows */
 };
 
+/* Why a run ended: the value of tca_run_answer's answer. Before each step it is tested in the order of these lines. */
+enum tca_answer {
+    TCA_VALUE = 0,   /* the term is a value: the routine is done */
+    TCA_WAITING = 1, /* no step can be made before a reply comes */
+    TCA_HELD = 3,    /* the step would send a call, and TCA_MAX_OPEN_CALLS are open */
+    TCA_NUMBERS = 6, /* the step would send a call, and number 65,535 has been sent */
+    TCA_ROOM = 5,    /* the next term has over TCA_MAX_RECORD_ROWS rows */
+    TCA_BUDGET = 4,  /* the budget's steps are made */
+    TCA_SENT = 2     /* the step was made and sent a call, which ends the run; the work buffer holds it */
+};
+
 /* What a load or a reply gives: 0 and 0 if it is accepted, else the refusal and its place. */
 typedef struct {
     uint32_t refusal; /* one of enum tca_refusal */
     uint32_t place;   /* a row, counted from 0, or 0 where the refusal names none */
 } tca_verdict;
+
+/* What a run gives. Of a refused one, answer, sent and steps are 0. */
+typedef struct {
+    uint32_t refusal; /* TCA_ACCEPTED if it ran, else TCA_LENGTH or TCA_UNSOUND */
+    uint32_t answer;  /* one of enum tca_answer */
+    uint32_t sent;    /* the number of the call that was sent, or 0 */
+    uint32_t steps;   /* the steps made; a send is one of them */
+} tca_run_answer;
 
 /*
  * Loads a program file into a record.
@@ -107,6 +130,18 @@ typedef struct {
  * It uses no heap and under 9 KiB of stack (measured on the deepest programs, not proved).
  */
 tca_verdict tca_load(const uint8_t *file, size_t file_len, uint8_t *record, size_t record_len);
+
+/*
+ * Runs a record for at most the budget's steps.
+ *
+ *   record, record_len  a sound record: one that a load, a run or a reply has left
+ *   work, work_len      TCA_WORK_BYTES bytes, of any old content
+ *   budget              any number, 0 included
+ *
+ * Ran: the record holds the term after so many steps. After TCA_SENT the work buffer holds the call and zeros, after
+ * other answers only zeros. Refused: no byte of either buffer is changed.
+ */
+tca_run_answer tca_run(uint8_t *record, size_t record_len, uint8_t *work, size_t work_len, uint32_t budget);
 
 /*
  * Takes a reply into a record.

@@ -5,12 +5,13 @@ use evaluator::make::nests::nests;
 use evaluator::make::records::written;
 use evaluator::record::Entry;
 use evaluator::rows::{kind, Row};
-use evaluator::table::{file_of, leaf, list, reply_of, tuple, Table};
+use evaluator::table::{apply, file_of, leaf, list, plain, reply_of, tuple, Table};
 use tca::RECORD_BYTES;
 
 /// A call of one entry.
 pub enum Call {
     Load(Vec<u8>),
+    Run(u32),
     Reply(Vec<u8>),
 }
 
@@ -48,6 +49,10 @@ impl Case {
 impl Job {
     fn load(file: Vec<u8>) -> Job {
         Job { record: vec![0x5A; RECORD_BYTES], call: Call::Load(file) }
+    }
+
+    fn run(record: Vec<u8>, budget: u32) -> Job {
+        Job { record, call: Call::Run(budget) }
     }
 
     fn reply(record: Vec<u8>, number: u32, rows: &[Row]) -> Job {
@@ -89,6 +94,52 @@ pub fn loads() -> Vec<Case> {
     cases
 }
 
+pub fn runs() -> Vec<Case> {
+    use Doubled::{Before, Behind, OpenCalls, Rows, Types};
+    let mut cases = vec![
+        Case::new("(a) a short routine, to its first call", Rows, 80, |rows| Job::run(record_of(rows, 0), 1_000)),
+        Case::new("(a) a long routine, to its first call", Rows, 200, |rows| Job::run(record_of(rows, 0), 1_000)),
+        Case::new("(b) the largest record, no step", Rows, MAX_ROWS, |rows| Job::run(record_of(rows, MAX_TYPES), 0)),
+        Case::new("(b) the largest record, no step", Types, MAX_TYPES, |types| Job::run(record_of(MAX_ROWS, types), 0)),
+        Case::new("(b) the largest record, waiting", OpenCalls, 64, |calls| Job::run(waiting_calls(calls), 1_000)),
+        Case::new("(b) the largest record, one call more", OpenCalls, 62, |calls| {
+            Job::run(with_a_call_left(calls), 1_000)
+        }),
+    ];
+    for (half, full) in nests(1_024).zip(nests(2_048)) {
+        let name = format!("(c) {}, one step", full.name);
+        cases.push(Case { name, half: Job::run(half.record(), 1), full: Job::run(full.record(), 1), doubled: Rows });
+    }
+    // Of the nests only ifs wait for what is below them.
+    for (half, full) in nests(1_024).zip(nests(2_048)).filter(|(half, _)| half.name.starts_with("if")) {
+        let waiting = [&half, &full].map(|nested| Job::run(nested.waiting().0, 1));
+        let to_value = [&half, &full].map(|nested| Job::run(nested.record(), 100_000));
+        for (what, [half, full]) in [("waiting", waiting), ("to its value, each step", to_value)] {
+            let name = format!("(c) if in if's condition, {what}");
+            cases.push(Case { name, half, full, doubled: Rows });
+        }
+    }
+    for budget in [1, 1_000] {
+        let steps = if budget == 1 { "one step".to_string() } else { "1,000 steps".to_string() };
+        cases.push(Case::new(&format!("(d) {steps} behind rows"), Before, 2_000, |rows| {
+            Job::run(loop_behind(rows), budget)
+        }));
+        cases.push(Case::new(&format!("(d) {steps} before rows"), Behind, 2_000, |rows| {
+            Job::run(loop_before(rows), budget)
+        }));
+    }
+    cases.extend([
+        Case::new("(e) a let of many names, one step", Rows, 1_600, |rows| Job::run(many_names(rows), 1)),
+        Case::new("(e) zip to its value, each step", Rows, 800, |rows| Job::run(zip_of(rows), 100_000)),
+        Case::new("(f) the last row fails typing", Rows, MAX_ROWS, |rows| {
+            let mut record = record_of(rows, MAX_TYPES);
+            record[9_748 + (rows - 1) * 8] = kind::STR;
+            Job::run(record, 1_000)
+        }),
+    ]);
+    cases
+}
+
 pub fn replies() -> Vec<Case> {
     use Doubled::{Before, Behind, OpenCalls, Rows};
     let string = |record: Vec<u8>, number| Job::reply(record, number, &leaf(kind::STR, 0, 41));
@@ -118,10 +169,11 @@ pub fn replies() -> Vec<Case> {
     cases
 }
 
-/// A routine of so many rows at its load and at the reply to its first call: what the picture shows.
-pub fn pictured(rows: usize) -> [Option<Job>; 2] {
+/// A routine of so many rows at its load, its first call and the reply to it: what the picture shows.
+pub fn pictured(rows: usize) -> [Option<Job>; 3] {
     let load = (rows <= 1_024).then(|| Job::load(routine(rows, 0)));
-    [load, Some(Job::reply(after_a_call(rows, 0), 1, &leaf(kind::STR, 0, 41)))]
+    let run = Job::run(record_of(rows, 0), 1_000);
+    [load, Some(run), Some(Job::reply(after_a_call(rows, 0), 1, &leaf(kind::STR, 0, 41)))]
 }
 
 fn row(kind: u8, ty: u16) -> Row {
@@ -305,6 +357,28 @@ fn filler(rows: usize) -> (u16, Vec<Row>) {
     (STRS, strings((rows - 1) / 2))
 }
 
+/// (fix of native f giving f())(), which takes a step and a step again for ever, in the place of a string.
+fn endless(table: &mut Table) -> (u16, Vec<Row>) {
+    let rest = table.native(&[], STR);
+    let whole = table.native(&[(1, rest)], STR);
+    let again = apply(STR, leaf(kind::VARIABLE, rest, 1), &[]);
+    (STR, apply(STR, plain(kind::FIX, rest, &[plain(kind::NATIVE, whole, &[again])]), &[]))
+}
+
+/// The endless loop behind so many rows.
+fn loop_behind(rows: usize) -> Vec<u8> {
+    let mut table = strings_table();
+    let parts = [filler(rows), endless(&mut table)];
+    side_by_side(table, &parts, &[])
+}
+
+/// The endless loop before so many rows.
+fn loop_before(rows: usize) -> Vec<u8> {
+    let mut table = strings_table();
+    let parts = [endless(&mut table), filler(rows)];
+    side_by_side(table, &parts, &[])
+}
+
 /// Entries 1 to the count, of strings.
 fn entries(count: usize, ty: u16) -> Vec<Entry> {
     (1..=count).map(|number| Entry { number: number as u32, ty }).collect()
@@ -314,6 +388,34 @@ fn entries(count: usize, ty: u16) -> Vec<Entry> {
 fn waiting_calls(calls: usize) -> Vec<u8> {
     let futures: Vec<Vec<Row>> = (0..1_000).map(|k| leaf(kind::FUTURE, STR, (k % calls) as u32 + 1)).collect();
     side_by_side(strings_table(), &[(STRS, list(STRS, &futures))], &entries(calls, STR))
+}
+
+/// The same, and behind it a call to be sent.
+fn with_a_call_left(calls: usize) -> Vec<u8> {
+    let futures: Vec<Vec<Row>> = (0..1_000).map(|k| leaf(kind::FUTURE, STR, (k % calls) as u32 + 1)).collect();
+    let mut table = strings_table();
+    let locate = table.foreign(&[], STR);
+    let parts = [(STRS, list(STRS, &futures)), (STR, apply(STR, leaf(kind::FOREIGN, locate, 900), &[]))];
+    side_by_side(table, &parts, &entries(calls, STR))
+}
+
+/// let x = str 7 in a list of x, so many rows in all; each x becomes a string.
+fn many_names(rows: usize) -> Vec<u8> {
+    let table = strings_table();
+    let body = list(STRS, &vec![leaf(kind::VARIABLE, STR, 1); (rows - 3) / 2]);
+    let rows = evaluator::table::let_in(STRS, 1, leaf(kind::STR, STR, 7), body);
+    written(&table.rows, &[], 1, STRS, &rows)
+}
+
+/// zip of (native a giving a) over a list of strings of so many rows.
+fn zip_of(rows: usize) -> Vec<u8> {
+    let mut table = strings_table();
+    let inner = table.native(&[(1, STR)], STR);
+    let outer = table.native(&[(1, STRS)], STRS);
+    let function = plain(kind::NATIVE, inner, &[leaf(kind::VARIABLE, STR, 1)]);
+    let zip = evaluator::table::counted(kind::ZIP, 1, outer, function);
+    let rows = apply(STRS, zip, &[strings((rows - 5) / 2)]);
+    written(&table.rows, &[], 1, STRS, &rows)
 }
 
 /// Call 1, a list of strings, behind or before so many rows.

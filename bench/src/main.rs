@@ -1,4 +1,4 @@
-//! Measures loads and replies by the proved library beside the independent evaluator's and beside the limit, at half
+//! Measures loads, runs and replies by the proved library beside the independent evaluator's and beside the limit, at half
 //! and at full size, and prints a table of each. Ends with 1 if a target is missed.
 
 mod cases;
@@ -55,13 +55,14 @@ fn measure(picture: Option<&str>) -> Result<Vec<String>, String> {
         "The library, the independent evaluator and the limit, all built for release; microseconds a call, medians of {CALLS} calls\n\
          (fewer where they take long), each timed alone on buffers made ready before, taking turns. Numbers and bytes of every\n\
          call were compared first and are equal. `limit` is one read of all that is lent and one copy of what changes. `growth` is\n\
-         what doubling costs: the rows, the types, the open calls, the rows before the place of a change or those behind it. The stack is memory of our own, painted before the call and looked through\n\
+         what doubling costs: the rows, the types, the open calls, the rows before the place of a step or those behind it; where\n\
+         a run makes more steps for it, each step. The stack is memory of our own, painted before the call and looked through\n\
          after it. Targets: ratio to the evaluator at most {RATIO_TARGET:.1}; growth at most {GROWTH_TARGET}, of all but types; stack at most\n\
          {STACK_TARGET} bytes."
     );
     let mut missed = Vec::new();
     let mut deepest = Vec::new();
-    for (entry, cases) in [("load", cases::loads()), ("reply", cases::replies())] {
+    for (entry, cases) in [("load", cases::loads()), ("run", cases::runs()), ("reply", cases::replies())] {
         println!(
             "\n| {:<44} | gave | rows | types | library | evaluator | ratio | limit | of limit | growth | by | stack |",
             format!("{entry} of")

@@ -1,4 +1,4 @@
-//! docs/benchmark.svg: the cost of load and reply against the rows, with the limit beside it; to be read in black and
+//! docs/benchmark.svg: the cost of load, run and reply against the rows, with the limit beside it; to be read in black and
 //! white.
 
 use std::fmt::Write as _;
@@ -9,7 +9,7 @@ use crate::timing::medians;
 
 /// The rows at which costs are measured.
 const ROWS: [usize; 6] = [64, 128, 256, 512, 1_024, 2_048];
-const PANELS: [&str; 2] = ["load", "reply to the first call"];
+const PANELS: [&str; 3] = ["load", "run to the first call", "reply to it"];
 
 /// A line of a panel: microseconds at each number of rows.
 struct Curve {

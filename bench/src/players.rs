@@ -4,7 +4,7 @@ use std::hint::black_box;
 
 use crate::cases::{Call, Job};
 use evaluator::layout::{u16_at, RECORD_ROWS};
-use tca::entries::{self, Verdict};
+use tca::entries::{self, RunAnswer, Verdict};
 use tca::{RECORD_BYTES, WORK_BYTES};
 
 /// The buffers lent to a call.
@@ -33,6 +33,11 @@ pub fn library(job: &Job, lent: &mut Lent) -> Given {
     let verdict = |Verdict { refusal, place }| [refusal, place, 0, 0, 0];
     match &job.call {
         Call::Load(file) => verdict(entries::load(black_box(file), &mut lent.record)),
+        Call::Run(budget) => {
+            let RunAnswer { refusal, answer, sent, steps } =
+                entries::run(&mut lent.record, &mut lent.work, black_box(*budget));
+            [refusal, 0, answer, sent, steps]
+        }
         Call::Reply(reply) => verdict(entries::reply(&mut lent.record, &mut lent.work, black_box(reply))),
     }
 }
@@ -41,12 +46,16 @@ pub fn evaluator(job: &Job, lent: &mut Lent) -> Given {
     let verdict = |verdict: evaluator::Verdict| [verdict.refusal, verdict.place, 0, 0, 0];
     match &job.call {
         Call::Load(file) => verdict(evaluator::load(black_box(file), &mut lent.record)),
+        Call::Run(budget) => match evaluator::run(&mut lent.record, &mut lent.work, black_box(*budget)) {
+            evaluator::Outcome::Refused(given) => verdict(given),
+            evaluator::Outcome::Ran { answer, sent, steps } => [0, 0, answer as u32, sent, steps],
+        },
         Call::Reply(reply) => verdict(evaluator::reply(&mut lent.record, &mut lent.work, black_box(reply))),
     }
 }
 
 /// The least that a call can do: one read of all that it is lent (a record must be looked at whole, since its unused space
-/// must be zero), and one copy of what it changes.
+/// must be zero), and one copy of what it changes, for a run step by step.
 pub struct Limit {
     /// From and to in the record, a range for each change.
     copies: Vec<(usize, usize)>,
@@ -58,10 +67,19 @@ impl Limit {
     pub fn of(job: &Job) -> Limit {
         let mut lent = Lent::new();
         lent.prepare(job);
-        let [refusal, ..] = evaluator(job, &mut lent);
+        let [refusal, _, _, _, steps] = evaluator(job, &mut lent);
         let mut copies = Vec::new();
         match job.call {
             _ if refusal != 0 => {}
+            Call::Run(_) => {
+                let mut now = Lent::new();
+                now.prepare(job);
+                for _ in 0..steps {
+                    let before = now.record.clone();
+                    evaluator::run(&mut now.record, &mut now.work, 1);
+                    copies.extend(changed(&before, &now.record));
+                }
+            }
             Call::Load(_) => copies.push((0, RECORD_BYTES)),
             Call::Reply(_) => copies.extend(changed(&job.record, &lent.record)),
         }
@@ -72,6 +90,7 @@ impl Limit {
     pub fn play(&self, job: &Job, lent: &mut Lent) -> Given {
         match &job.call {
             Call::Load(file) => read(file),
+            Call::Run(_) => read(&lent.record),
             Call::Reply(reply) => {
                 read(&lent.record);
                 read(reply);

@@ -57,11 +57,11 @@ impl Machine for Evaluator {
     }
 }
 
-/// The proved library, through its C entries. It has load and reply; the evaluator makes its runs, so that replies meet
-/// records in mid-run.
+/// The proved library, through its C entries.
 #[cfg(feature = "library")]
 pub mod library {
     use super::*;
+    use crate::words::ANSWERS;
 
     #[repr(C)]
     struct CVerdict {
@@ -69,8 +69,24 @@ pub mod library {
         place: u32,
     }
 
+    #[repr(C)]
+    struct CRunAnswer {
+        refusal: u32,
+        answer: u32,
+        sent: u32,
+        steps: u32,
+    }
+
     extern "C" {
         fn tca_load(file_ptr: *const u8, file_len: usize, record_ptr: *mut u8, record_len: usize) -> CVerdict;
+
+        fn tca_run(
+            record_ptr: *mut u8,
+            record_len: usize,
+            work_ptr: *mut u8,
+            work_len: usize,
+            budget: u32,
+        ) -> CRunAnswer;
 
         fn tca_reply(
             record_ptr: *mut u8,
@@ -88,7 +104,7 @@ pub mod library {
     // slices lent to be written share no byte.
     impl Machine for Library {
         fn name(&self) -> String {
-            "library (its runs made by the evaluator)".to_string()
+            "library".to_string()
         }
 
         fn load(&mut self, file: &[u8], record: &mut [u8]) -> Verdict {
@@ -98,7 +114,16 @@ pub mod library {
         }
 
         fn run(&mut self, record: &mut [u8], work: &mut [u8], budget: u32) -> Outcome {
-            Evaluator::TRUE.run(record, work, budget)
+            // SAFETY: as said above.
+            let given = unsafe { tca_run(record.as_mut_ptr(), record.len(), work.as_mut_ptr(), work.len(), budget) };
+            let CRunAnswer { refusal, answer: number, sent, steps } = given;
+            let known = ANSWERS.iter().find(|(answer, _)| *answer as u32 == number);
+            match (refusal, known) {
+                (0, Some(&(answer, _))) => Outcome::Ran { answer, sent, steps },
+                (1.., _) if (number, sent, steps) == (0, 0, 0) => Outcome::Refused(Verdict { refusal, place: 0 }),
+                // What no run gives differs from all that one gives.
+                _ => Outcome::Refused(Verdict { refusal, place: u32::MAX }),
+            }
         }
 
         fn reply(&mut self, record: &mut [u8], work: &mut [u8], reply: &[u8]) -> Verdict {

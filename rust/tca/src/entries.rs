@@ -1,4 +1,4 @@
-//! The library's entries on lent bytes of any length, giving its numbers as they are. For those who keep records in
+//! The library's three entries on lent bytes of any length, giving its numbers as they are. For those who keep records in
 //! memory of their own; everything else in this crate is made of these. Each call into the library stands here.
 
 /// What a load or a reply gives: 0 and 0 if it is accepted, else the refusal and its place.
@@ -11,12 +11,28 @@ pub struct Verdict {
     pub place: u32,
 }
 
+/// What a run gives. A refused run gives its refusal and three zeros.
+#[repr(C)]
+#[derive(Clone, Copy, Debug, PartialEq, Eq)]
+pub struct RunAnswer {
+    /// 0 if it ran, or the refusal's number.
+    pub refusal: u32,
+    /// The answer's number.
+    pub answer: u32,
+    /// The number of the call that was sent, or 0.
+    pub sent: u32,
+    /// The steps made.
+    pub steps: u32,
+}
+
 /// As include/tca.h declares them.
 mod library {
-    use super::Verdict;
+    use super::{RunAnswer, Verdict};
 
     extern "C" {
         pub fn tca_load(file: *const u8, file_len: usize, record: *mut u8, record_len: usize) -> Verdict;
+
+        pub fn tca_run(record: *mut u8, record_len: usize, work: *mut u8, work_len: usize, budget: u32) -> RunAnswer;
 
         pub fn tca_reply(
             record: *mut u8,
@@ -53,9 +69,15 @@ pub fn load(file: &[u8], record: &mut [u8]) -> Verdict {
     unsafe { library::tca_load(address(file), file.len(), address_to_write(record), record.len()) }
 }
 
+/// Runs a record for at most the budget's steps.
+pub fn run(record: &mut [u8], work: &mut [u8], budget: u32) -> RunAnswer {
+    // SAFETY: as for `load`; two slices lent to be written share no byte.
+    unsafe { library::tca_run(address_to_write(record), record.len(), address_to_write(work), work.len(), budget) }
+}
+
 /// Takes a reply into a record.
 pub fn reply(record: &mut [u8], work: &mut [u8], reply: &[u8]) -> Verdict {
-    // SAFETY: as for `load`; two slices lent to be written share no byte.
+    // SAFETY: as for `run`.
     unsafe {
         library::tca_reply(
             address_to_write(record),

@@ -1,12 +1,12 @@
 //! A safe wrapper of the proved library for attachment routines.
 //!
-//! What is proved is the library behind [`load`] and [`reply`]: for all bytes lent to them, their answers and every
+//! What is proved is the library behind [`load`], [`run`] and [`reply`]: for all bytes lent to them, their answers and every
 //! byte of every buffer are the ones that their statements settle. Around that, this crate only turns buffers into
 //! addresses and numbers into words. The library keeps nothing between calls and allocates nothing; a [`Record`] and a
 //! [`Work`] buffer are the only memory.
 //!
 //! ```
-//! use tca::{Refusal, Row, Work};
+//! use tca::{Answer, Refusal, Row, Work};
 //!
 //! // The routine `locate()`: a head, two types (Str, and the foreign function that takes nothing and gives Str) and two
 //! // rows (apply, and the foreign function with its tool, 900).
@@ -19,12 +19,20 @@
 //! file.extend([0x07, 0, 1, 0, 0x84, 3, 0, 0]);
 //!
 //! let mut record = tca::load(&file)?;
-//! assert_eq!(record.rows().count(), 2);
+//! let mut work = Work::new();
+//! let ran = tca::run(&mut record, &mut work, 1_000)?;
+//! let Answer::Sent(call) = ran.answer else { panic!("it calls locate first") };
+//! assert_eq!((call.number, call.tool, call.result, call.rows.len()), (1, 900, 0, 0));
 //!
-//! // No call has been sent, so no reply is taken.
+//! // The tool has found string 40. A second reply to the call is refused.
 //! let found = Row { kind: 1, n: 0, ty: 0, word: 40 };
-//! let refused = tca::reply(&mut record, &mut Work::new(), &tca::reply_of(1, &[found])).unwrap_err();
+//! tca::reply(&mut record, &mut work, &call.reply(&[found]))?;
+//! let refused = tca::reply(&mut record, &mut work, &call.reply(&[found])).unwrap_err();
 //! assert_eq!(refused.refusal, Refusal::NotOpen);
+//!
+//! let ran = tca::run(&mut record, &mut work, 1_000)?;
+//! assert_eq!((ran.answer, ran.steps), (Answer::Value, 0));
+//! assert_eq!(record.rows().collect::<Vec<_>>(), [found]);
 //! # Ok::<(), tca::Refused>(())
 //! ```
 
@@ -34,10 +42,12 @@ mod buffers;
 pub mod entries;
 mod refusals;
 mod rows;
+mod runs;
 
 pub use buffers::{Open, Record, Work};
 pub use refusals::{Refusal, Refused};
 pub use rows::{reply_of, Call, Row};
+pub use runs::{Answer, Ran};
 
 /// A program file's head: mark, version, a zero byte, type count, row count.
 pub const FILE_HEAD_BYTES: usize = 10;
@@ -73,12 +83,29 @@ pub const MAX_REPLY_ROWS: usize = 256;
 ///
 /// The library's statement leaves no other verdict than those. If another comes, the archive that was linked is not the
 /// one that this crate was written for, and nothing is known of the record's bytes. That is no refusal that a caller
-/// could handle, and must never be taken for an accepted load: the wrapper panics. So does [`reply`].
+/// could handle, and must never be taken for an accepted load: the wrapper panics. So do [`run`] and [`reply`].
 pub fn load(file: &[u8]) -> Result<Record, Refused> {
     let mut record = Record::blank();
     let verdict = entries::load(file, record.bytes_mut());
     refusals::outcome(verdict, &[2, 3, 4, 5, 6, 7, 8, 9])?;
     Ok(record)
+}
+
+/// Runs a record until it is a value, waits, sends a call, or has made the budget's steps; or stops at a limit.
+///
+/// After [`Answer::Sent`] the work buffer holds the call and zeros, after other answers only zeros. What it held before
+/// does not matter.
+///
+/// # Errors
+///
+/// A record that is not sound is refused, [`Refusal::Unsound`], and no byte has changed.
+///
+/// # Panics
+///
+/// As [`load`].
+pub fn run(record: &mut Record, work: &mut Work, budget: u32) -> Result<Ran, Refused> {
+    let given = entries::run(record.bytes_mut(), work.bytes_mut(), budget);
+    runs::outcome(given, work.as_bytes())
 }
 
 /// Takes a reply into a record: its rows replace the call that it answers, which is open no longer.

@@ -1,10 +1,10 @@
-//! Records and work buffers of every length, old content and address, lent to reply.
+//! Records and work buffers of every length, old content and address, lent to run and reply.
 
 use crate::{old_bytes, Pair};
 use evaluator::compare::small_let;
 use evaluator::rows::kind;
 use evaluator::table::{leaf, reply_of};
-use tca::entries::{reply, Verdict};
+use tca::entries::{reply, run, RunAnswer, Verdict};
 use tca::{RECORD_BYTES, WORK_BYTES};
 
 /// Let p, with call 1 open.
@@ -30,6 +30,8 @@ fn a_buffer_of_another_length_is_refused_before_all_else() {
             sound.resize(record_length, 0);
             for record in [sound, old_bytes(record_length)] {
                 let mut pair = Pair::over(record, old_bytes(work_length));
+                assert_eq!(pair.run(0), (1, 0, 0, 0));
+                assert_eq!(pair.run(u32::MAX), (1, 0, 0, 0));
                 assert_eq!(pair.reply(&right_reply()), (1, 0));
                 assert_eq!(pair.reply(&[]), (1, 0));
             }
@@ -40,6 +42,8 @@ fn a_buffer_of_another_length_is_refused_before_all_else() {
 #[test]
 fn the_old_work_does_not_matter() {
     for old in [vec![0; WORK_BYTES], vec![0xFF; WORK_BYTES], old_bytes(WORK_BYTES)] {
+        let mut pair = Pair::over(waiting(), old.clone());
+        assert_eq!(pair.run(1), (0, 2, 2, 1));
         let mut pair = Pair::over(waiting(), old);
         assert_eq!(pair.reply(&right_reply()), (0, 0));
     }
@@ -49,6 +53,8 @@ fn the_old_work_does_not_matter() {
 #[test]
 fn nothing_outside_the_buffers_is_touched() {
     const AROUND: usize = 64;
+    let mut ran = Pair::of(waiting());
+    assert_eq!(ran.run(1), (0, 2, 2, 1));
     let mut replied = Pair::of(waiting());
     assert_eq!(replied.reply(&right_reply()), (0, 0));
     let old = old_bytes(AROUND + RECORD_BYTES + AROUND);
@@ -59,6 +65,11 @@ fn nothing_outside_the_buffers_is_touched() {
         let (record_at, work_at) = (at..at + RECORD_BYTES, AROUND - at..AROUND - at + WORK_BYTES);
         let work_shelf =
             |middle: &[u8]| [&old_work[..AROUND - at], middle, &old_work[AROUND - at + WORK_BYTES..]].concat();
+
+        let (mut record, mut work) = lend();
+        let given = run(&mut record[record_at.clone()], &mut work[work_at.clone()], 1);
+        assert_eq!(given, RunAnswer { refusal: 0, answer: 2, sent: 2, steps: 1 });
+        assert!(record == shelf(&ran.library[0], &old) && work == work_shelf(&ran.library[1]), "a run at {at}");
 
         let (mut record, mut work) = lend();
         let moved = [&old[..at], &right_reply()].concat();

@@ -38,6 +38,17 @@ fn the_c_header_has_the_same_limits() {
 }
 
 #[test]
+fn the_c_header_has_the_same_answers() {
+    use tca::{Answer, Call};
+    let header = header_numbers();
+    let call = Call { number: 1, tool: 1, result: 0, rows: vec![] };
+    let answers = [Answer::Sent(call), Answer::Held, Answer::Budget, Answer::Room, Answer::Numbers];
+    for answer in [Answer::Value, Answer::Waiting].into_iter().chain(answers) {
+        assert_eq!(header[format!("TCA_{}", answer.name()).as_str()], answer.number() as usize);
+    }
+}
+
+#[test]
 fn the_c_header_has_the_same_refusals() {
     let header = header_numbers();
     assert_eq!(header["TCA_ACCEPTED"], 0);
@@ -70,4 +81,5 @@ fn the_evaluator_has_the_same_limits() {
     assert_eq!(layout::RECORD_ROWS, header_numbers()["TCA_RECORD_ROWS"]);
     assert_eq!(layout::RECORD_ROW_COUNT, header_numbers()["TCA_RECORD_ROW_COUNT"]);
     assert_eq!(layout::REPLY_HEAD, header_numbers()["TCA_REPLY_HEAD_BYTES"]);
+    assert_eq!(layout::CALL_HEAD, header_numbers()["TCA_CALL_HEAD_BYTES"]);
 }

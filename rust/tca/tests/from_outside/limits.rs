@@ -1,15 +1,52 @@
 //! The limits met from outside: rows of a term, open calls, call numbers, rows after a reply.
 
 use crate::Pair;
-use evaluator::layout::MAX_ROWS;
+use evaluator::layout::{put_u32, MAX_ROWS, RECORD_NEXT};
 use evaluator::make::records::written;
 use evaluator::record::Entry;
 use evaluator::rows::{kind, Row};
-use evaluator::table::{apply, file_of, leaf, list, reply_of, tuple, Table};
+use evaluator::table::{apply, file_of, leaf, let_in, list, plain, reply_of, tuple, Table};
+use tca::entries::{reply, run};
 
 const VALUE: u32 = 0;
 const SENT: u32 = 2;
 const HELD: u32 = 3;
+const BUDGET: u32 = 4;
+const ROOM: u32 = 5;
+const NUMBERS: u32 = 6;
+
+/// let x = a list of 340 truths (681 rows) in a tuple of x three times and so many strings: the next term has 2,044 rows
+/// and the strings.
+fn grows_to(rows: usize) -> Pair {
+    let strings = rows - 2_044;
+    let mut table = Table::default();
+    let (str, bool) = (table.str(), table.bool());
+    let bools = table.list(bool);
+    let parts = [vec![bools; 3], vec![str; strings]].concat();
+    let ty = table.tuple(&parts);
+    let bound = list(bools, &vec![leaf(kind::TRUE, bool, 0); 340]);
+    let elements = [vec![leaf(kind::VARIABLE, bools, 1); 3], vec![leaf(kind::STR, str, 5); strings]].concat();
+    Pair::loaded(&file_of(&table.rows, &let_in(ty, 1, bound, tuple(ty, &elements))))
+}
+
+/// "a next term of 2,048 rows steps"
+#[test]
+fn a_next_term_of_2_048_rows_steps() {
+    let mut pair = grows_to(2_048);
+    assert_eq!((pair.run(0), pair.rows()), ((0, BUDGET, 0, 0), 690));
+    assert_eq!((pair.run(1), pair.rows()), ((0, VALUE, 0, 1), 2_048));
+    // The full record is sound.
+    assert_eq!(pair.run(u32::MAX), (0, VALUE, 0, 0));
+}
+
+/// "2,049 is ROOM", also where no step may be made.
+#[test]
+fn a_next_term_of_2_049_rows_is_room() {
+    let mut pair = grows_to(2_049);
+    for budget in [0, 1, 7, 1_000, u32::MAX] {
+        assert_eq!((pair.run(budget), pair.rows()), ((0, ROOM, 0, 0), 691));
+    }
+}
 
 /// A list of so many calls for strings.
 fn calls(count: usize) -> Pair {
@@ -47,6 +84,65 @@ fn the_64th_call_is_sent_and_the_65th_is_held() {
         assert_eq!(pair.reply(&string(number)), (0, 0));
     }
     assert_eq!(pair.run(0), (0, VALUE, 0, 0));
+}
+
+/// "number 65,535 is sent, then NUMBERS"
+#[test]
+fn number_65_535_is_sent_and_then_none() {
+    let mut pair = calls(3);
+    assert_eq!(pair.run(1), (0, SENT, 1, 1));
+    for record in [&mut pair.library[0], &mut pair.evaluator[0]] {
+        put_u32(record, RECORD_NEXT, 65_535);
+    }
+    assert_eq!(pair.run(1_000), (0, SENT, 65_535, 1));
+    for budget in [0, 1, u32::MAX] {
+        assert_eq!(pair.run(budget), (0, NUMBERS, 0, 0));
+    }
+    assert_eq!(pair.reply(&string(65_535)), (0, 0));
+    assert_eq!(pair.run(1), (0, NUMBERS, 0, 0));
+    assert_eq!(pair.reply(&string(1)), (0, 0));
+    assert_eq!(pair.run(1), (0, NUMBERS, 0, 0));
+}
+
+/// HELD is named before NUMBERS.
+#[test]
+fn held_stands_before_numbers() {
+    let mut pair = calls(65);
+    for number in 1..=64 {
+        assert_eq!(pair.run(1), (0, SENT, number, 1));
+    }
+    for record in [&mut pair.library[0], &mut pair.evaluator[0]] {
+        put_u32(record, RECORD_NEXT, 65_536);
+    }
+    assert_eq!(pair.run(1), (0, HELD, 0, 0));
+    assert_eq!(pair.reply(&string(7)), (0, 0));
+    assert_eq!(pair.run(1), (0, NUMBERS, 0, 0));
+}
+
+/// From a load to the last number: a routine that calls again and again, (fix of native f giving if look() then f() else
+/// f())(), each call replied to. By the library alone, as every number is known.
+#[test]
+fn every_number_is_sent_once() {
+    let mut table = Table::default();
+    let bool = table.bool();
+    let look = table.foreign(&[], bool);
+    let rest = table.native(&[], bool);
+    let whole = table.native(&[(1, rest)], bool);
+    let called = apply(bool, leaf(kind::FOREIGN, look, 900), &[]);
+    let again = apply(bool, leaf(kind::VARIABLE, rest, 1), &[]);
+    let body = plain(kind::IF, bool, &[called, again.clone(), again]);
+    let fix = plain(kind::FIX, rest, &[plain(kind::NATIVE, whole, &[body])]);
+    let [mut record, mut work] = Pair::loaded(&file_of(&table.rows, &apply(bool, fix, &[]))).library;
+    for number in 1..=65_535 {
+        let given = run(&mut record, &mut work, 1_000);
+        // Fix, its application and the call; from the second call on also the if before them.
+        let steps = if number == 1 { 3 } else { 4 };
+        assert_eq!((given.answer, given.sent, given.steps), (SENT, number, steps));
+        let truth = if number % 2 == 0 { kind::TRUE } else { kind::FALSE };
+        assert_eq!(reply(&mut record, &mut work, &reply_of(number, &leaf(truth, bool, 0))).refusal, 0);
+    }
+    let given = run(&mut record, &mut work, 1_000);
+    assert_eq!((given.refusal, given.answer, given.sent, given.steps), (0, NUMBERS, 0, 3));
 }
 
 /// A record of 2,048 - spare rows in which call 1, a list of strings, stands so many times.

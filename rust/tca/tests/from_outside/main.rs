@@ -16,7 +16,7 @@ mod stacks;
 
 use evaluator::random::Random;
 use evaluator::Outcome;
-use tca::entries::{load, reply, Verdict};
+use tca::entries::{load, reply, run, RunAnswer, Verdict};
 use tca::{RECORD_BYTES, WORK_BYTES};
 
 /// Document 01's first case as a file, byte by byte: if true then str 7 else str 8.
@@ -81,14 +81,6 @@ impl Judges {
 /// What a run gives, as numbers: refusal, answer, sent, steps.
 type Ran = (u32, u32, u32, u32);
 
-/// A run by the evaluator, the library having none: it brings records to where replies are taken.
-fn run(record: &mut [u8], work: &mut [u8], budget: u32) -> Ran {
-    match evaluator::run(record, work, budget) {
-        Outcome::Refused(verdict) => (verdict.refusal, 0, 0, 0),
-        Outcome::Ran { answer, sent, steps } => (0, answer as u32, sent, steps),
-    }
-}
-
 /// A record and a work buffer lent to the library, and the same to the evaluator.
 struct Pair {
     library: [Vec<u8>; 2],
@@ -115,12 +107,22 @@ impl Pair {
         Pair::of(record)
     }
 
-    /// A run of both records.
+    /// What both say of a run. All bytes are equal; a refusal has changed none; the work buffer is zero unless a call was
+    /// sent.
     fn run(&mut self, budget: u32) -> Ran {
+        let old = self.library.clone();
         let [record, work] = &mut self.library;
-        run(record, work, budget);
+        let RunAnswer { refusal, answer, sent, steps } = run(record, work, budget);
         let [record, work] = &mut self.evaluator;
-        run(record, work, budget)
+        let wanted = match evaluator::run(record, work, budget) {
+            Outcome::Refused(verdict) => (verdict.refusal, 0, 0, 0),
+            Outcome::Ran { answer, sent, steps } => (0, answer as u32, sent, steps),
+        };
+        assert_eq!((refusal, answer, sent, steps), wanted, "library and evaluator");
+        assert!(self.library == self.evaluator, "the buffers after a run");
+        assert!(refusal == 0 || self.library == old, "the buffers after a refusal");
+        assert!(refusal != 0 || answer == 2 || is_zero(&self.library[1]), "the work buffer after no send");
+        wanted
     }
 
     /// What both say of a reply. All bytes are equal; a refusal has changed none; else the work buffer is zero.

@@ -1,4 +1,4 @@
-//! Refused replies: each number, at its place, with no byte changed (as `Pair` sees at every call).
+//! Refused runs and replies: each number, at its place, with no byte changed (as `Pair` sees at every call).
 
 use crate::Pair;
 use evaluator::compare::small_let;
@@ -34,6 +34,8 @@ fn a_record_that_is_not_sound_is_refused_before_the_reply_is_looked_at() {
         let mut record = kept.record;
         record[5] = 1;
         let mut pair = Pair::of(record);
+        assert_eq!(pair.run(0), (10, 0, 0, 0));
+        assert_eq!(pair.run(u32::MAX), (10, 0, 0, 0));
         assert_eq!(pair.reply(&kept.reply), (10, 0));
         assert_eq!(pair.reply(&[]), (10, 0));
     }
@@ -43,7 +45,7 @@ fn a_record_that_is_not_sound_is_refused_before_the_reply_is_looked_at() {
 fn a_program_file_is_no_record() {
     let mut file = small_let();
     file.resize(tca::RECORD_BYTES, 0);
-    assert_eq!(Pair::of(file).reply(&[]), (10, 0));
+    assert_eq!(Pair::of(file).run(5), (10, 0, 0, 0));
 }
 
 /// 11: "reply header or length".
