@@ -15,7 +15,6 @@ pub mod make;
 pub mod random;
 pub mod record;
 pub mod rows;
-pub mod show;
 pub mod step;
 pub mod table;
 pub mod term;

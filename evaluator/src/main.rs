@@ -1,4 +1,4 @@
-//! The commands: comparing machines, showing faults and frequencies, reading files for people, the bench runner.
+//! The commands: comparing machines, telling faults and frequencies, the bench runner.
 
 use std::io::{self, Read, Write};
 use std::process::ExitCode;
@@ -15,7 +15,6 @@ use evaluator::layout::{RECORD_BYTES, WORK_BYTES};
 use evaluator::machine::{Evaluator, Machine};
 use evaluator::make::kept::{other_values, three_records, Kept};
 use evaluator::make::sessions::Act;
-use evaluator::show::{show, Taken};
 
 const HELP: &str = "\
 evaluator compare-loads    [--count N] [--seconds S] [--seed S] [--group G] [--against M] [--announce]
@@ -24,10 +23,9 @@ evaluator compare-sessions [--count N] [--seconds S] [--seed S] [--from N] [--ag
 evaluator compare-records  [--all] [--record early|middle|late] [--from BYTE] [--count BYTES] [--against M]
 evaluator faults           [--count N] [--seed S]
 evaluator frequencies      [--sessions N] [--groups N] [--seed S]
-evaluator show FILE        [--reply | --call] [--types RECORD]
 evaluator bench-runner     < FILE
 
-FILE and RECORD may be `-` for standard input. M is `evaluator`, the name of a fault, or `library` (with the feature of that name).
+M is `evaluator`, the name of a fault, or `library` (with the feature of that name).
 --announce names each group or session before it is begun, for a machine that may crash or not return.
 ";
 
@@ -62,7 +60,6 @@ fn command(words: &[String], out: &mut dyn Write) -> io::Result<ExitCode> {
             evaluator::frequencies::print(seed, sessions, groups, out)?;
             Ok(ExitCode::SUCCESS)
         }
-        "show" => show_file(&options, out),
         "bench-runner" => {
             let mut file = Vec::new();
             io::stdin().lock().read_to_end(&mut file)?;
@@ -97,7 +94,6 @@ impl Options<'_> {
             "compare-records" => &["--all", "--record", "--from", "--count", "--against"],
             "faults" => &["--count", "--seed"],
             "frequencies" => &["--sessions", "--groups", "--seed"],
-            "show" => &["--reply", "--call", "--types"],
             _ => &[],
         };
         let unknown = self.0.iter().find(|word| word.starts_with("--") && !known.contains(&word.as_str()));
@@ -339,33 +335,6 @@ fn show_faults(options: &Options, out: &mut dyn Write) -> io::Result<ExitCode> {
         Fault::ALL.len()
     )?;
     Ok(if missed == 0 { ExitCode::SUCCESS } else { ExitCode::FAILURE })
-}
-
-/// A file for people to read. The name is the first word that no option takes.
-fn show_file(options: &Options, out: &mut dyn Write) -> io::Result<ExitCode> {
-    let types_word = options.word("--types");
-    let is_name = |word: &&String| !word.starts_with("--") && Some(word.as_str()) != types_word;
-    let Some(name) = options.0.iter().find(is_name) else {
-        return Err(bad_input("show needs the name of a file".to_string()));
-    };
-    let taken = match (options.has("--reply"), options.has("--call")) {
-        (true, _) => Taken::Reply,
-        (_, true) => Taken::Call,
-        _ => Taken::ByMark,
-    };
-    let bytes = read(name)?;
-    let record = types_word.map(read).transpose()?;
-    write!(out, "{}", show(&bytes, taken, record.as_deref()))?;
-    Ok(ExitCode::SUCCESS)
-}
-
-fn read(name: &str) -> io::Result<Vec<u8>> {
-    if name == "-" {
-        let mut bytes = Vec::new();
-        io::stdin().lock().read_to_end(&mut bytes)?;
-        return Ok(bytes);
-    }
-    std::fs::read(name).map_err(|error| io::Error::new(error.kind(), format!("{name}: {error}")))
 }
 
 fn found(out: &mut dyn Write, difference: &evaluator::compare::Difference) -> io::Result<ExitCode> {

@@ -1,13 +1,10 @@
-//! Bytes of any kind, the deepest terms, and the reader for people: nothing panics, and the words say what is wrong.
+//! Bytes of any kind, and the deepest terms: nothing panics.
 
 use evaluator::layout::*;
-use evaluator::make::files::damaged;
-use evaluator::make::records::{damage, sound, written, WAYS};
-use evaluator::make::sessions::{Act, Session};
+use evaluator::make::records::written;
 use evaluator::random::Random;
 use evaluator::record::Entry;
 use evaluator::rows::{kind, Row};
-use evaluator::show::{show, Taken};
 use evaluator::table::*;
 use evaluator::{load, reply, run, Answer, Outcome, Verdict};
 
@@ -61,73 +58,4 @@ fn the_deepest_terms_run_on_any_thread() {
     assert_eq!(run(&mut record, &mut work, 1_000), Outcome::Ran { answer: Answer::Budget, sent: 0, steps: 1_000 });
     assert_eq!(reply(&mut record, &mut work, &answer), Verdict::ACCEPTED);
     assert_eq!(run(&mut record, &mut work, 1_000), Outcome::Ran { answer: Answer::Value, sent: 0, steps: 24 });
-    assert!(show(&deepest(), Taken::ByMark, None).contains("(depth 2047)"));
-}
-
-#[test]
-fn the_reader_shows_a_program_and_its_refusal() {
-    let file = evaluator::compare::small_let();
-    let text = show(&file, Taken::ByMark, None);
-    for words in ["accepted", "() -foreign-> Str", "{Str, Str}", "let n7 =", "foreign function, tool 900"] {
-        assert!(text.contains(words), "{words} in\n{text}");
-    }
-    let mut wrong = file.clone();
-    let last_row = file.len() - ROW_BYTES;
-    wrong[last_row + 4] = 8;
-    let text = show(&wrong, Taken::ByMark, None);
-    assert!(text.contains("refused, number 9 at 5: row that fails typing"), "{text}");
-    assert!(text.contains(">>    5") && text.contains("word 8"), "{text}");
-    let text = show(&file[..9], Taken::ByMark, None);
-    assert!(text.contains("refused, number 2"), "{text}");
-    let mut unfinished = file[..last_row].to_vec();
-    unfinished[8] = 5;
-    assert!(show(&unfinished, Taken::ByMark, None).contains("the tree is unfinished"));
-}
-
-#[test]
-fn the_reader_shows_open_calls_replies_and_sent_calls() {
-    let mut record = vec![0; RECORD_BYTES];
-    let mut work = vec![0; WORK_BYTES];
-    load(&evaluator::compare::small_let(), &mut record);
-    run(&mut record, &mut work, 100);
-    let text = show(&record, Taken::ByMark, None);
-    assert!(text.contains("sound") && text.contains("open call 1 : Str, stands at row 1"), "{text}");
-    assert!(show(&work, Taken::Call, Some(&record)).contains("call 1 of tool 900, result Str, 0 argument rows"));
-    let right = show(&reply_of(1, &leaf(kind::STR, 0, 41)), Taken::Reply, Some(&record));
-    assert!(right.contains("accepted") && right.contains("str 41 : Str"), "{right}");
-    let wrong = show(&reply_of(1, &leaf(kind::TRUE, 1, 0)), Taken::Reply, Some(&record));
-    assert!(wrong.contains("refused, number 15 at 0"), "{wrong}");
-    record[20] = 9;
-    assert!(show(&record, Taken::ByMark, None).contains("not sound: type row 0 is bad"));
-}
-
-#[test]
-fn the_reader_survives_every_damage() {
-    let mut random = Random::new(11);
-    for number in 0..600 {
-        let mut session = Session::new(12, number);
-        while let Some(act) = session.next(&[], &[]) {
-            match act {
-                Act::Load(bytes) | Act::Reply(bytes) => {
-                    for taken in [Taken::ByMark, Taken::Reply, Taken::Call] {
-                        show(&bytes, taken, None);
-                    }
-                }
-                _ => break,
-            }
-        }
-        let mut record = sound(&mut random);
-        let reply = reply_of(1, &[]);
-        damage(&mut random, &mut record, number as usize % WAYS.len());
-        let text = show(&record, Taken::ByMark, None);
-        assert!(text.contains("sound") || text.contains("refused, number"), "{text}");
-        show(&reply, Taken::Reply, Some(&record));
-        show(&record, Taken::Call, Some(&record[..7]));
-    }
-    let base = evaluator::make::files::parts_of(&evaluator::compare::small_let()).expect("a whole file");
-    for _ in 0..2_000 {
-        let file = damaged(&mut random, &base);
-        show(&file, Taken::ByMark, None);
-        show(&file, Taken::Reply, Some(&file));
-    }
 }
