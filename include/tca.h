@@ -131,6 +131,7 @@ typedef struct {
  */
 tca_verdict tca_load(const uint8_t *file, size_t file_len, uint8_t *record, size_t record_len);
 
+#ifdef TCA_RUN
 /*
  * Runs a record for at most the budget's steps.
  *
@@ -140,8 +141,12 @@ tca_verdict tca_load(const uint8_t *file, size_t file_len, uint8_t *record, size
  *
  * Ran: the record holds the term after so many steps. After TCA_SENT the work buffer holds the call and zeros, after
  * other answers only zeros. Refused: no byte of either buffer is changed.
+ *
+ * It is declared where TCA_RUN is defined, and comes with the library's run: an archive without it (tools/has-run tells)
+ * cannot be linked with a program that calls it.
  */
 tca_run_answer tca_run(uint8_t *record, size_t record_len, uint8_t *work, size_t work_len, uint32_t budget);
+#endif
 
 /*
  * Takes a reply into a record.

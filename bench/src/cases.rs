@@ -172,8 +172,8 @@ pub fn replies() -> Vec<Case> {
 /// A routine of so many rows at its load, its first call and the reply to it: what the picture shows.
 pub fn pictured(rows: usize) -> [Option<Job>; 3] {
     let load = (rows <= 1_024).then(|| Job::load(routine(rows, 0)));
-    let run = Job::run(record_of(rows, 0), 1_000);
-    [load, Some(run), Some(Job::reply(after_a_call(rows, 0), 1, &leaf(kind::STR, 0, 41)))]
+    let run = cfg!(feature = "run").then(|| Job::run(record_of(rows, 0), 1_000));
+    [load, run, Some(Job::reply(after_a_call(rows, 0), 1, &leaf(kind::STR, 0, 41)))]
 }
 
 fn row(kind: u8, ty: u16) -> Row {

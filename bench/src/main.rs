@@ -62,7 +62,11 @@ fn measure(picture: Option<&str>) -> Result<Vec<String>, String> {
     );
     let mut missed = Vec::new();
     let mut deepest = Vec::new();
-    for (entry, cases) in [("load", cases::loads()), ("run", cases::runs()), ("reply", cases::replies())] {
+    let runs = if cfg!(feature = "run") { cases::runs() } else { Vec::new() };
+    for (entry, cases) in [("load", cases::loads()), ("run", runs), ("reply", cases::replies())] {
+        if cases.is_empty() {
+            continue;
+        }
         println!(
             "\n| {:<44} | gave | rows | types | library | evaluator | ratio | limit | of limit | growth | by | stack |",
             format!("{entry} of")

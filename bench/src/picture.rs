@@ -17,6 +17,9 @@ struct Curve {
     points: Vec<(usize, f64)>,
 }
 
+/// A panel's title and its lines.
+type Panel = (&'static str, [Curve; 3]);
+
 /// Width and height of a panel's axes, and the space around them.
 const WIDE: f64 = 250.0;
 const HIGH: f64 = 260.0;
@@ -29,8 +32,8 @@ const MOST: (f64, f64) = (2_700.0, 2_000.0);
 
 /// The picture, measured anew.
 pub fn drawn() -> Result<String, String> {
-    let mut panels: Vec<[Curve; 3]> = Vec::new();
-    for panel in 0..PANELS.len() {
+    let mut panels: Vec<Panel> = Vec::new();
+    for (panel, title) in PANELS.into_iter().enumerate() {
         let curve = |name| Curve { name, points: Vec::new() };
         let mut curves = [curve("evaluator"), curve("library"), curve("limit")];
         for rows in ROWS {
@@ -43,7 +46,10 @@ pub fn drawn() -> Result<String, String> {
                 curve.points.push((rows, time));
             }
         }
-        panels.push(curves);
+        // Without the library's run there is nothing to draw of it.
+        if !curves[0].points.is_empty() {
+            panels.push((title, curves));
+        }
     }
     Ok(svg(&panels))
 }
@@ -53,7 +59,7 @@ fn along(value: f64, least: f64, most: f64) -> f64 {
     (value / least).ln() / (most / least).ln()
 }
 
-fn svg(panels: &[[Curve; 3]]) -> String {
+fn svg(panels: &[Panel]) -> String {
     let width = LEFT + panels.len() as f64 * (WIDE + GAP) + 40.0;
     let height = TOP + HIGH + 62.0;
     let mut text = format!(
@@ -62,7 +68,7 @@ fn svg(panels: &[[Curve; 3]]) -> String {
          <rect width=\"{width}\" height=\"{height}\" fill=\"white\"/>\n\
          <text x=\"{LEFT}\" y=\"20\" font-size=\"15\">Microseconds a call against rows of the routine (both logarithmic)</text>\n"
     );
-    for (k, (curves, title)) in panels.iter().zip(PANELS).enumerate() {
+    for (k, (title, curves)) in panels.iter().enumerate() {
         let left = LEFT + k as f64 * (WIDE + GAP);
         let _ = writeln!(text, "<text x=\"{left}\" y=\"{}\" font-weight=\"bold\">{title}</text>", TOP - 8.0);
         axes(&mut text, left, k == 0);

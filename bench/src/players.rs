@@ -4,7 +4,9 @@ use std::hint::black_box;
 
 use crate::cases::{Call, Job};
 use evaluator::layout::{u16_at, RECORD_ROWS};
-use tca::entries::{self, RunAnswer, Verdict};
+#[cfg(feature = "run")]
+use tca::entries::RunAnswer;
+use tca::entries::{self, Verdict};
 use tca::{RECORD_BYTES, WORK_BYTES};
 
 /// The buffers lent to a call.
@@ -33,6 +35,9 @@ pub fn library(job: &Job, lent: &mut Lent) -> Given {
     let verdict = |Verdict { refusal, place }| [refusal, place, 0, 0, 0];
     match &job.call {
         Call::Load(file) => verdict(entries::load(black_box(file), &mut lent.record)),
+        #[cfg(not(feature = "run"))]
+        Call::Run(_) => unreachable!("without the library's run none is measured"),
+        #[cfg(feature = "run")]
         Call::Run(budget) => {
             let RunAnswer { refusal, answer, sent, steps } =
                 entries::run(&mut lent.record, &mut lent.work, black_box(*budget));

@@ -57,10 +57,12 @@ impl Machine for Evaluator {
     }
 }
 
-/// The proved library, through its C entries.
+/// The proved library, through its C entries. Without the feature `run` the evaluator makes its runs, so that replies meet
+/// records in mid-run.
 #[cfg(feature = "library")]
 pub mod library {
     use super::*;
+    #[cfg(feature = "run")]
     use crate::words::ANSWERS;
 
     #[repr(C)]
@@ -69,6 +71,7 @@ pub mod library {
         place: u32,
     }
 
+    #[cfg(feature = "run")]
     #[repr(C)]
     struct CRunAnswer {
         refusal: u32,
@@ -80,6 +83,7 @@ pub mod library {
     extern "C" {
         fn tca_load(file_ptr: *const u8, file_len: usize, record_ptr: *mut u8, record_len: usize) -> CVerdict;
 
+        #[cfg(feature = "run")]
         fn tca_run(
             record_ptr: *mut u8,
             record_len: usize,
@@ -104,7 +108,8 @@ pub mod library {
     // slices lent to be written share no byte.
     impl Machine for Library {
         fn name(&self) -> String {
-            "library".to_string()
+            let runs = if cfg!(feature = "run") { "" } else { " (its runs made by the evaluator)" };
+            format!("library{runs}")
         }
 
         fn load(&mut self, file: &[u8], record: &mut [u8]) -> Verdict {
@@ -113,6 +118,13 @@ pub mod library {
             Verdict { refusal: verdict.refusal, place: verdict.place }
         }
 
+        #[cfg(not(feature = "run"))]
+        fn run(&mut self, record: &mut [u8], work: &mut [u8], budget: u32) -> Outcome {
+            let mut evaluator = Evaluator::TRUE;
+            evaluator.run(record, work, budget)
+        }
+
+        #[cfg(feature = "run")]
         fn run(&mut self, record: &mut [u8], work: &mut [u8], budget: u32) -> Outcome {
             // SAFETY: as said above.
             let given = unsafe { tca_run(record.as_mut_ptr(), record.len(), work.as_mut_ptr(), work.len(), budget) };

@@ -1,4 +1,4 @@
-//! The library's three entries on lent bytes of any length, giving its numbers as they are. For those who keep records in
+//! The library's entries on lent bytes of any length, giving its numbers as they are. For those who keep records in
 //! memory of their own; everything else in this crate is made of these. Each call into the library stands here.
 
 /// What a load or a reply gives: 0 and 0 if it is accepted, else the refusal and its place.
@@ -27,11 +27,14 @@ pub struct RunAnswer {
 
 /// As include/tca.h declares them.
 mod library {
-    use super::{RunAnswer, Verdict};
+    #[cfg(feature = "run")]
+    use super::RunAnswer;
+    use super::Verdict;
 
     extern "C" {
         pub fn tca_load(file: *const u8, file_len: usize, record: *mut u8, record_len: usize) -> Verdict;
 
+        #[cfg(feature = "run")]
         pub fn tca_run(record: *mut u8, record_len: usize, work: *mut u8, work_len: usize, budget: u32) -> RunAnswer;
 
         pub fn tca_reply(
@@ -69,7 +72,8 @@ pub fn load(file: &[u8], record: &mut [u8]) -> Verdict {
     unsafe { library::tca_load(address(file), file.len(), address_to_write(record), record.len()) }
 }
 
-/// Runs a record for at most the budget's steps.
+/// Runs a record for at most the budget's steps. With the feature `run` only.
+#[cfg(feature = "run")]
 pub fn run(record: &mut [u8], work: &mut [u8], budget: u32) -> RunAnswer {
     // SAFETY: as for `load`; two slices lent to be written share no byte.
     unsafe { library::tca_run(address_to_write(record), record.len(), address_to_write(work), work.len(), budget) }
@@ -77,7 +81,7 @@ pub fn run(record: &mut [u8], work: &mut [u8], budget: u32) -> RunAnswer {
 
 /// Takes a reply into a record.
 pub fn reply(record: &mut [u8], work: &mut [u8], reply: &[u8]) -> Verdict {
-    // SAFETY: as for `run`.
+    // SAFETY: as for `load`; two slices lent to be written share no byte.
     unsafe {
         library::tca_reply(
             address_to_write(record),

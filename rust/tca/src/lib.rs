@@ -1,11 +1,12 @@
 //! A safe wrapper of the proved library for attachment routines.
 //!
-//! What is proved is the library behind [`load`], [`run`] and [`reply`]: for all bytes lent to them, their answers and every
+//! What is proved is the library behind [`load`] and [`reply`], and behind `run` where it has one (the feature `run`): for all bytes lent to them, their answers and every
 //! byte of every buffer are the ones that their statements settle. Around that, this crate only turns buffers into
 //! addresses and numbers into words. The library keeps nothing between calls and allocates nothing; a [`Record`] and a
 //! [`Work`] buffer are the only memory.
 //!
-//! ```
+#![cfg_attr(feature = "run", doc = "```")]
+#![cfg_attr(not(feature = "run"), doc = "```ignore")]
 //! use tca::{Answer, Refusal, Row, Work};
 //!
 //! // The routine `locate()`: a head, two types (Str, and the foreign function that takes nothing and gives Str) and two
@@ -83,7 +84,7 @@ pub const MAX_REPLY_ROWS: usize = 256;
 ///
 /// The library's statement leaves no other verdict than those. If another comes, the archive that was linked is not the
 /// one that this crate was written for, and nothing is known of the record's bytes. That is no refusal that a caller
-/// could handle, and must never be taken for an accepted load: the wrapper panics. So do [`run`] and [`reply`].
+/// could handle, and must never be taken for an accepted load: the wrapper panics. So do `run` and [`reply`].
 pub fn load(file: &[u8]) -> Result<Record, Refused> {
     let mut record = Record::blank();
     let verdict = entries::load(file, record.bytes_mut());
@@ -91,7 +92,8 @@ pub fn load(file: &[u8]) -> Result<Record, Refused> {
     Ok(record)
 }
 
-/// Runs a record until it is a value, waits, sends a call, or has made the budget's steps; or stops at a limit.
+/// Runs a record until it is a value, waits, sends a call, or has made the budget's steps; or stops at a limit. With the
+/// feature `run` only.
 ///
 /// After [`Answer::Sent`] the work buffer holds the call and zeros, after other answers only zeros. What it held before
 /// does not matter.
@@ -103,6 +105,7 @@ pub fn load(file: &[u8]) -> Result<Record, Refused> {
 /// # Panics
 ///
 /// As [`load`].
+#[cfg(feature = "run")]
 pub fn run(record: &mut Record, work: &mut Work, budget: u32) -> Result<Ran, Refused> {
     let given = entries::run(record.bytes_mut(), work.bytes_mut(), budget);
     runs::outcome(given, work.as_bytes())

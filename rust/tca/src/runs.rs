@@ -2,7 +2,9 @@
 
 use std::fmt;
 
+#[cfg(any(feature = "run", test))]
 use crate::entries::{RunAnswer, Verdict};
+#[cfg(any(feature = "run", test))]
 use crate::refusals::{self, Refused};
 use crate::rows::Call;
 
@@ -77,6 +79,7 @@ impl fmt::Display for Answer {
 }
 
 /// A run's answer in words, with the call that the work buffer holds after a send.
+#[cfg(any(feature = "run", test))]
 pub(crate) fn outcome(given: RunAnswer, work: &[u8]) -> Result<Ran, Refused> {
     let RunAnswer { refusal, answer, sent, steps } = given;
     if refusal != 0 && (answer, sent, steps) == (0, 0, 0) {

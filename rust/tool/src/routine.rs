@@ -3,9 +3,34 @@
 use std::collections::HashMap;
 use std::io;
 
-use library::{Answer, Open, Ran, Record, Refused, Work};
+use library::{Answer, Open, Ran, Record, Refusal, Refused, Work};
 
 use crate::keep::{new_ticket, Kept, KeptCall};
+
+/// Whether the library has run, by which records are stepped: the feature `run`.
+pub const HAS_RUN: bool = cfg!(feature = "run");
+
+#[cfg(feature = "run")]
+use library::run as library_run;
+
+/// Stands where the library has no run. The commands look at `HAS_RUN` first.
+#[cfg(not(feature = "run"))]
+fn library_run(_: &mut Record, _: &mut Work, _: u32) -> Result<Ran, Refused> {
+    unreachable!("this library has no run")
+}
+
+/// What a record comes to in no steps, or why it is not sound. Without run, an empty reply finds that out: soundness is looked at
+/// before the reply is, which is then refused for its header.
+pub fn state(mut record: Record) -> Result<Option<Answer>, Refused> {
+    let mut work = Work::new();
+    if HAS_RUN {
+        return library_run(&mut record, &mut work, 0).map(|ran| Some(ran.answer));
+    }
+    match library::reply(&mut record, &mut work, &[]) {
+        Err(refused) if refused.refusal != Refusal::Header => Err(refused),
+        _ => Ok(None),
+    }
+}
 
 /// A run, or a reply, that did not come about.
 #[derive(Debug)]
@@ -59,7 +84,7 @@ impl Routine {
                 let _lock = kept.lock()?;
                 let mut record = Record::from_bytes(&kept.read()?)?;
                 let before = record.clone();
-                let ran = library::run(&mut record, &mut work, budget)?;
+                let ran = library_run(&mut record, &mut work, budget)?;
                 let mut sent = None;
                 if let Answer::Sent(call) = &ran.answer {
                     let call = kept.keep_call(call)?;
@@ -72,7 +97,7 @@ impl Routine {
                 Ok((ran, sent))
             }
             Routine::InMemory { record, calls } => {
-                let ran = library::run(record, &mut work, budget)?;
+                let ran = library_run(record, &mut work, budget)?;
                 let sent = match &ran.answer {
                     Answer::Sent(call) => Some(KeptCall { call: call.clone(), ticket: new_ticket() }),
                     _ => None,

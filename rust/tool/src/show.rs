@@ -5,6 +5,7 @@ use library::{Answer, Record, Work};
 use crate::bytes::*;
 use crate::judge::{file_bytes, program_reason, reply_reason, unsound, Unsound, Why};
 use crate::lines::{term_lines, type_lines};
+use crate::routine::state;
 use crate::shape::shape_fault;
 use crate::types::Types;
 use crate::words::Words;
@@ -182,10 +183,15 @@ fn record(shown: &mut Shown, bytes: &[u8], tools: &[(u32, u32)]) {
 
 /// Whether the record is sound, by the library, and what it waits for; or why it is not.
 fn record_state(shown: &mut Shown, bytes: &[u8], rows: &[Row], open: &[Entry]) -> Option<Unsound> {
-    let asked = Record::from_bytes(bytes).and_then(|mut record| library::run(&mut record, &mut Work::new(), 0));
+    let asked = Record::from_bytes(bytes).and_then(state);
     match asked {
-        Ok(ran) => {
-            shown.say(format!("sound; {}", state_words(&ran.answer, rows, open)));
+        Ok(answer) => {
+            let words = match answer {
+                Some(answer) => state_words(&answer, rows, open),
+                None if open.is_empty() => "no call is open".to_string(),
+                None => format!("open: {}", calls_words(open.iter().map(|entry| entry.number))),
+            };
+            shown.say(format!("sound; {words}"));
             None
         }
         Err(refused) => {

@@ -149,8 +149,9 @@ fn look_at(bytes: &[u8], sort: Sort, lender: Option<&[u8]>, number: u64) {
     assert_eq!(found, (verdict.refusal, verdict.place), "{number}: the reason is another\n{}", lines.join("\n"));
     match sort {
         Sort::Record => {
-            let ran = library::entries::run(&mut bytes.to_vec(), &mut vec![0; library::WORK_BYTES], 0);
-            assert_eq!(unsound(bytes).is_some(), ran.refusal != 0, "{number}: the reason is another");
+            // Of a sound record, an empty reply is refused for its header.
+            let verdict = library::entries::reply(&mut bytes.to_vec(), &mut vec![0; library::WORK_BYTES], &[]);
+            assert_eq!(unsound(bytes).is_some(), verdict.refusal != 11, "{number}: the reason is another");
         }
         Sort::Reply => {
             let mut record = lender.expect("a reply has a record").to_vec();

@@ -1,5 +1,7 @@
 //! The commands from outside: what they print, write, leave alone and end with.
 
+#![cfg_attr(not(feature = "run"), allow(unused_imports))]
+
 mod common;
 
 use std::fs::{self, File};
@@ -37,6 +39,7 @@ fn help_is_asked_for_and_usage_is_not() {
         "check a b",
         "show x --as tree",
         "show --types",
+        #[cfg(feature = "run")]
         "run r --budget many",
         "make x",
         "play x --tool y",
@@ -50,16 +53,87 @@ fn help_is_asked_for_and_usage_is_not() {
 #[test]
 fn a_file_that_cannot_be_read_is_named() {
     let folder = folder("unread");
+    let with_run: &[&str] = if cfg!(feature = "run") { &["run none", "play none"] } else { &[] };
     for words in
-        ["check none", "show none", "make none -o x", "load none r", "run none", "reply none x", "play none", "check ."]
+        ["check none", "show none", "make none -o x", "load none r", "reply none x", "check ."].iter().chain(with_run)
     {
         let said = said(&folder, words, "");
         assert_eq!((said.status, said.out.as_str()), (2, ""), "{words}");
-        assert!(said.err.starts_with("tca: none: ") || words == "check .", "{words}: {}", said.err);
+        assert!(said.err.starts_with("tca: none: ") || *words == "check .", "{words}: {}", said.err);
     }
 }
 
+/// Where the library has no run, that is said, and no file is touched.
 #[test]
+#[cfg(not(feature = "run"))]
+fn without_run_nothing_is_run_or_played() {
+    let folder = with_settle("no-run");
+    assert_eq!(said(&folder, "load settle r", "").out, "r: loaded: 5 types, 11 rows\n");
+    let before = bytes(&folder, "r");
+    for words in ["run r", "run none", "play settle", "play settle --record r", "play settle --tools ./none"] {
+        let said = said(&folder, words, "");
+        assert_eq!((said.status, said.out.as_str()), (2, ""), "{words}");
+        assert!(said.err.starts_with("tca: this library has no run yet") && said.err.lines().count() == 1, "{said:?}");
+    }
+    assert!(bytes(&folder, "r") == before && !folder.join("r.calls").exists());
+}
+
+/// A record of let p = scan() in {p, p} as a run leaves it that has sent both calls, made by the evaluator.
+fn with_two_open_calls(test: &str) -> std::path::PathBuf {
+    let folder = folder(test);
+    fs::write(folder.join("pair.txt"), "tool scan = 1 : foreign() -> Str\ntype B = Bool\nterm let p = scan() {p, p}")
+        .unwrap();
+    assert_eq!(said(&folder, "make pair.txt -o pair", "").status, 0);
+    assert_eq!(said(&folder, "load pair r", "").status, 0);
+    let (mut record, mut work) = (bytes(&folder, "r"), vec![0; library::WORK_BYTES]);
+    for _ in 0..2 {
+        evaluator::run(&mut record, &mut work, 1_000);
+    }
+    fs::write(folder.join("r"), record).unwrap();
+    folder
+}
+
+#[test]
+fn replies_are_taken_once_each_in_any_order() {
+    let folder = with_two_open_calls("replies");
+    let waiting = bytes(&folder, "r");
+    for (words, input) in [
+        ("load pair r", ""),
+        ("reply r pair", ""),
+        ("reply r - --text", "reply 1 true"),
+        ("reply r - --text", "reply 3 str 1"),
+        ("reply r - --text", "str 1"),
+        ("reply r - --text", "str"),
+    ] {
+        let said = said(&folder, words, input);
+        assert_eq!(said.status, 1, "{words} {input}: {said:?}");
+        assert!(bytes(&folder, "r") == waiting, "{words} {input}");
+    }
+    assert!(said(&folder, "show r", "").out.contains("call 2 : Str, at row 2\n"));
+    fs::write(folder.join("reply"), [2, 0, 0, 0, 1, 0, 0, 0, 1, 0, 0, 0, 41, 0, 0, 0]).unwrap();
+    let shown = said(&folder, "show reply --as reply --types r", "");
+    assert!(shown.out.contains("this record would take it") && shown.out.contains("str 41 : Str"), "{shown:?}");
+    let taken = said(&folder, "reply r reply", "");
+    assert!(taken.status == 0 && taken.out.starts_with("r: the reply to call 2 is taken\n"), "{taken:?}");
+    let again = said(&folder, "reply r reply", "");
+    assert!(again.status == 1 && again.err.contains("(refusal 12)"), "{again:?}");
+    assert_eq!(said(&folder, "reply r - --text", "str 40").status, 0);
+    let shown = said(&folder, "show r", "");
+    assert!(shown.status == 0 && shown.out.contains("str 40 : Str") && shown.out.contains("str 41 : Str"), "{shown:?}");
+    // What is no record, or not sound, stays as it is.
+    assert_eq!(said(&folder, "load pair pair", "").status, 2);
+    let mut damaged = waiting.clone();
+    damaged[12] = 0;
+    fs::write(folder.join("damaged"), &damaged).unwrap();
+    let refused = said(&folder, "reply damaged reply", "");
+    assert!(refused.status == 1 && refused.err.contains("(refusal 10)"), "{refused:?}");
+    assert!(bytes(&folder, "damaged") == damaged);
+    let shown = said(&folder, "show damaged", "");
+    assert!(shown.status == 1 && shown.out.contains("(refusal 10)"), "{shown:?}");
+}
+
+#[test]
+#[cfg(feature = "run")]
 fn a_routine_is_run_call_by_call() {
     let folder = with_settle("call-by-call");
     assert_eq!(said(&folder, "load settle r", "").out, "r: loaded: 5 types, 11 rows\nnext: `tca run r`\n");
@@ -92,6 +166,7 @@ fn a_routine_is_run_call_by_call() {
 }
 
 #[test]
+#[cfg(feature = "run")]
 fn a_refusal_leaves_the_file_as_it_was() {
     let folder = with_settle("refusals");
     said(&folder, "load settle r", "");
@@ -135,6 +210,7 @@ fn a_refusal_leaves_the_file_as_it_was() {
 }
 
 #[test]
+#[cfg(feature = "run")]
 fn two_processes_wait_for_each_other() {
     let folder = with_settle("lock");
     said(&folder, "load settle r", "");
@@ -166,6 +242,7 @@ fn two_processes_wait_for_each_other() {
 }
 
 #[test]
+#[cfg(feature = "run")]
 fn a_link_is_followed_and_not_replaced() {
     let folder = with_settle("link");
     said(&folder, "load settle r", "");
@@ -176,6 +253,7 @@ fn a_link_is_followed_and_not_replaced() {
 }
 
 #[test]
+#[cfg(feature = "run")]
 fn played_at_the_terminal_in_any_order() {
     let folder = folder("terminal");
     let pair = "tool scan = 1 : foreign() -> Str\nterm let p = scan() {p, p, [p]}";
@@ -201,6 +279,7 @@ fn played_at_the_terminal_in_any_order() {
 }
 
 #[test]
+#[cfg(feature = "run")]
 fn a_tool_that_fails_leaves_its_call_open() {
     let folder = with_settle("failing");
     script(&folder, "fails", "#!/bin/sh\nexit 3\n");
@@ -226,6 +305,7 @@ fn a_tool_that_fails_leaves_its_call_open() {
 }
 
 #[test]
+#[cfg(feature = "run")]
 fn a_function_is_a_value_too() {
     let folder = folder("function");
     fs::write(folder.join("f.txt"), "term native(x: Str) x").unwrap();
@@ -238,6 +318,7 @@ fn a_function_is_a_value_too() {
 }
 
 #[test]
+#[cfg(feature = "run")]
 fn a_call_answered_from_elsewhere_is_left_aside() {
     let folder = with_settle("elsewhere");
     script(&folder, "slow", "#!/bin/sh\nif grep -q 'tool 1'; then sleep 0.4; echo str 5; else exit 1; fi\n");
@@ -258,6 +339,7 @@ fn a_call_answered_from_elsewhere_is_left_aside() {
 }
 
 #[test]
+#[cfg(feature = "run")]
 fn a_reply_without_room_is_put_off() {
     let folder = folder("room");
     let list = |count: usize| format!("[{}]", vec!["str 7"; count].join(", "));

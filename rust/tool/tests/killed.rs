@@ -1,5 +1,7 @@
 //! Killed at any moment of a kept play, the record is sound, no call is lost, and none goes out under another number.
 
+#![cfg(feature = "run")]
+
 mod common;
 
 use std::collections::{HashMap, HashSet};

@@ -9,6 +9,9 @@ use std::process::Command;
 
 use common::folder;
 
+/// What stands behind this heading needs the library's run.
+const WITH_RUN: &str = "\n### Run and play";
+
 #[test]
 fn the_readme_shows_real_output() {
     let root = Path::new(env!("CARGO_MANIFEST_DIR")).join("../..");
@@ -16,7 +19,9 @@ fn the_readme_shows_real_output() {
     symlink(root.join("examples").canonicalize().unwrap(), folder.join("examples")).unwrap();
     let programs = Path::new(env!("CARGO_BIN_EXE_tca")).parent().unwrap();
     let path = format!("{}:{}", programs.display(), std::env::var("PATH").unwrap());
-    let commands = commands(&fs::read_to_string(root.join("README.md")).unwrap());
+    let page = fs::read_to_string(root.join("README.md")).unwrap();
+    let (today, _) = page.split_once(WITH_RUN).expect("the section of run and play");
+    let commands = commands(if cfg!(feature = "run") { &page } else { today });
     for (command, shown) in &commands {
         let output = Command::new("bash")
             .args(["-c", &format!("exec 2>&1; {command}")])
@@ -27,7 +32,8 @@ fn the_readme_shows_real_output() {
         let said = String::from_utf8(output.stdout).unwrap();
         assert_eq!(said.trim_end(), shown.trim_end(), "$ {command}");
     }
-    for name in ["check", "show", "make", "load", "run", "reply", "play"] {
+    let with_run: &[&str] = if cfg!(feature = "run") { &["run", "play"] } else { &[] };
+    for name in ["check", "show", "make", "load", "reply"].iter().chain(with_run) {
         let is_shown = commands.iter().any(|(command, _)| command.contains(&format!("tca {name} ")));
         assert!(is_shown, "the README lacks `tca {name}`");
     }

@@ -1,10 +1,10 @@
 //! Records and work buffers of every length, old content and address, lent to run and reply.
 
-use crate::{old_bytes, Pair};
+use crate::{old_bytes, run, Pair};
 use evaluator::compare::small_let;
 use evaluator::rows::kind;
 use evaluator::table::{leaf, reply_of};
-use tca::entries::{reply, run, RunAnswer, Verdict};
+use tca::entries::{reply, RunAnswer, Verdict};
 use tca::{RECORD_BYTES, WORK_BYTES};
 
 /// Let p, with call 1 open.

@@ -1,12 +1,14 @@
 //! The limits met from outside: rows of a term, open calls, call numbers, rows after a reply.
 
-use crate::Pair;
+#![cfg_attr(not(feature = "run"), allow(dead_code, unused_imports))]
+
+use crate::{run, Pair};
 use evaluator::layout::{put_u32, MAX_ROWS, RECORD_NEXT};
 use evaluator::make::records::written;
 use evaluator::record::Entry;
 use evaluator::rows::{kind, Row};
 use evaluator::table::{apply, file_of, leaf, let_in, list, plain, reply_of, tuple, Table};
-use tca::entries::{reply, run};
+use tca::entries::reply;
 
 const VALUE: u32 = 0;
 const SENT: u32 = 2;
@@ -31,6 +33,7 @@ fn grows_to(rows: usize) -> Pair {
 
 /// "a next term of 2,048 rows steps"
 #[test]
+#[cfg(feature = "run")]
 fn a_next_term_of_2_048_rows_steps() {
     let mut pair = grows_to(2_048);
     assert_eq!((pair.run(0), pair.rows()), ((0, BUDGET, 0, 0), 690));
@@ -41,6 +44,7 @@ fn a_next_term_of_2_048_rows_steps() {
 
 /// "2,049 is ROOM", also where no step may be made.
 #[test]
+#[cfg(feature = "run")]
 fn a_next_term_of_2_049_rows_is_room() {
     let mut pair = grows_to(2_049);
     for budget in [0, 1, 7, 1_000, u32::MAX] {
@@ -122,6 +126,7 @@ fn held_stands_before_numbers() {
 /// From a load to the last number: a routine that calls again and again, (fix of native f giving if look() then f() else
 /// f())(), each call replied to. By the library alone, as every number is known.
 #[test]
+#[cfg(feature = "run")]
 fn every_number_is_sent_once() {
     let mut table = Table::default();
     let bool = table.bool();

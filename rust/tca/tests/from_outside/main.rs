@@ -16,7 +16,9 @@ mod stacks;
 
 use evaluator::random::Random;
 use evaluator::Outcome;
-use tca::entries::{load, reply, run, RunAnswer, Verdict};
+#[cfg(feature = "run")]
+use tca::entries::run;
+use tca::entries::{load, reply, RunAnswer, Verdict};
 use tca::{RECORD_BYTES, WORK_BYTES};
 
 /// Document 01's first case as a file, byte by byte: if true then str 7 else str 8.
@@ -80,6 +82,15 @@ impl Judges {
 
 /// What a run gives, as numbers: refusal, answer, sent, steps.
 type Ran = (u32, u32, u32, u32);
+
+/// Without the library's run the evaluator makes its runs: they bring records to where replies are taken.
+#[cfg(not(feature = "run"))]
+fn run(record: &mut [u8], work: &mut [u8], budget: u32) -> RunAnswer {
+    match evaluator::run(record, work, budget) {
+        Outcome::Refused(verdict) => RunAnswer { refusal: verdict.refusal, answer: 0, sent: 0, steps: 0 },
+        Outcome::Ran { answer, sent, steps } => RunAnswer { refusal: 0, answer: answer as u32, sent, steps },
+    }
+}
 
 /// A record and a work buffer lent to the library, and the same to the evaluator.
 struct Pair {

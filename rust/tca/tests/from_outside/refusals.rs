@@ -45,7 +45,8 @@ fn a_record_that_is_not_sound_is_refused_before_the_reply_is_looked_at() {
 fn a_program_file_is_no_record() {
     let mut file = small_let();
     file.resize(tca::RECORD_BYTES, 0);
-    assert_eq!(Pair::of(file).run(5), (10, 0, 0, 0));
+    assert_eq!(Pair::of(file.clone()).run(5), (10, 0, 0, 0));
+    assert_eq!(Pair::of(file).reply(&[]), (10, 0));
 }
 
 /// 11: "reply header or length".

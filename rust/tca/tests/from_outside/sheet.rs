@@ -1,5 +1,7 @@
 //! The bench sheet's sessions by the library: every number is document 01's.
 
+#![cfg_attr(not(feature = "run"), allow(unused_imports))]
+
 use crate::{document_file, Pair};
 use evaluator::compare::small_let;
 use evaluator::layout::{u16_at, u32_at, RECORD_ROWS};
@@ -13,6 +15,7 @@ const BUDGET: u32 = 4;
 
 /// "if true then str 7 else str 8: 1 step, str 7. Budget 0: BUDGET, 0 steps."
 #[test]
+#[cfg(feature = "run")]
 fn if_true() {
     let mut pair = Pair::loaded(&document_file());
     assert_eq!(pair.run(0), (0, BUDGET, 0, 0));
@@ -48,6 +51,7 @@ fn let_p() {
 
 /// The same through the wrapper's types.
 #[test]
+#[cfg(feature = "run")]
 fn let_p_in_words() {
     use tca::{Answer, Open, Refusal, Row, Work};
     let mut record = tca::load(&small_let()).unwrap();
@@ -86,6 +90,7 @@ fn a_record_that_no_load_made_is_unsound() {
     let mut record = tca::Record::from_bytes(&[0; tca::RECORD_BYTES]).unwrap();
     let mut work = tca::Work::from_bytes(&[7; tca::WORK_BYTES]).unwrap();
     let unsound = tca::Refused { refusal: tca::Refusal::Unsound, place: 0 };
+    #[cfg(feature = "run")]
     assert_eq!(tca::run(&mut record, &mut work, 5), Err(unsound));
     assert_eq!(tca::reply(&mut record, &mut work, &[]), Err(unsound));
     assert!(work.as_bytes().iter().all(|&byte| byte == 7));
@@ -93,6 +98,7 @@ fn a_record_that_no_load_made_is_unsound() {
 
 /// A call's arguments one behind the other: attach({str 1, str 2}, [true]) sends 3 + 3 rows.
 #[test]
+#[cfg(feature = "run")]
 fn a_call_holds_the_rows_of_all_its_arguments() {
     let mut table = Table::default();
     let (str, bool) = (table.str(), table.bool());

@@ -5,12 +5,15 @@ use evaluator::layout::{MAX_PROGRAM_ROWS, MAX_ROWS};
 use evaluator::make::kept::three_records;
 use evaluator::make::nests::nests;
 use evaluator::table::reply_of;
-use tca::entries::{load, reply, run};
+#[cfg(feature = "run")]
+use tca::entries::run;
+use tca::entries::{load, reply};
 use tca::{RECORD_BYTES, WORK_BYTES};
 
 const MOST: usize = 64 * 1024;
 
 /// The stack of a run, with a budget.
+#[cfg(feature = "run")]
 fn of_run(record: &[u8], budget: u32) -> usize {
     let (mut record, mut work) = (record.to_vec(), vec![0; WORK_BYTES]);
     used_by(|| assert_eq!(run(&mut record, &mut work, budget).refusal, 0))
@@ -32,6 +35,7 @@ fn a_load_of_the_deepest_programs_uses_little_stack() {
 }
 
 #[test]
+#[cfg(feature = "run")]
 fn a_run_of_the_deepest_terms_uses_little_stack() {
     for nested in nests(MAX_ROWS) {
         for record in [nested.record(), nested.waiting().0] {
@@ -55,6 +59,7 @@ fn a_reply_to_the_deepest_terms_uses_little_stack() {
 #[test]
 fn the_largest_records_use_little_stack() {
     for kept in three_records() {
+        #[cfg(feature = "run")]
         assert!(of_run(&kept.record, 1_000) <= MOST, "a run of the {} record", kept.name);
         let (mut record, mut work) = (kept.record.clone(), vec![0; WORK_BYTES]);
         let used = used_by(|| _ = reply(&mut record, &mut work, &kept.reply));

@@ -13,7 +13,7 @@ use crate::judge::{reply_reason, unsound};
 use crate::keep::{replace_file, Kept};
 use crate::options::Given;
 use crate::play::{play, Ended, Tools};
-use crate::routine::{Routine, Trouble};
+use crate::routine::{Routine, Trouble, HAS_RUN};
 use crate::show::{calls_words, lent_types, many, state_words};
 use crate::text::read_reply;
 use crate::types::Types;
@@ -35,8 +35,27 @@ pub(super) fn load(given: &Given, out: &mut dyn Write) -> Ending {
     let record = kept.read()?;
     let counts = format!("{}, {}", many(u16_at(&record, 6).into(), "type"), many(u16_at(&record, 8).into(), "row"));
     writeln!(out, "{target}: loaded: {counts}")?;
-    writeln!(out, "next: `tca run {target}`")?;
+    say_next(target, out)?;
     Ok(Status::Done)
+}
+
+/// What a record is there for next, where the library has run.
+fn say_next(name: &str, out: &mut dyn Write) -> std::io::Result<()> {
+    if HAS_RUN {
+        writeln!(out, "next: `tca run {name}`")?;
+    }
+    Ok(())
+}
+
+/// Nothing is stepped by a library without run.
+fn must_have_run() -> Result<(), Failure> {
+    let words =
+        "this library has no run yet, so no routine can be run or played; check, show, make, load and reply work";
+    if HAS_RUN {
+        Ok(())
+    } else {
+        Err(Failure::Words(Status::WrongUse, words.to_string()))
+    }
 }
 
 /// Loads a file into a record's place; a refusal leaves the place as it was.
@@ -83,6 +102,7 @@ fn unsound_words(name: &str, bytes: &[u8], trouble: Trouble) -> Failure {
 }
 
 pub(super) fn run(given: &Given, out: &mut dyn Write) -> Ending {
+    must_have_run()?;
     let name = &given.files[0];
     let budget = given.number("--budget").map_err(Failure::Usage)?.unwrap_or(BUDGET);
     let kept = Kept::new(Path::new(name));
@@ -143,7 +163,7 @@ pub(super) fn reply(given: &Given, out: &mut dyn Write) -> Ending {
     match ended {
         Ok(()) => {
             writeln!(out, "{name}: the reply to call {} is taken", u32_at(&taken, 0))?;
-            writeln!(out, "next: `tca run {name}`")?;
+            say_next(name, out)?;
             Ok(Status::Done)
         }
         Err(failure) => Err(reply_failure(name, &before, &taken, failure)),
@@ -174,6 +194,7 @@ fn reply_failure(name: &str, record: &[u8], reply: &[u8], failure: Failure) -> F
 }
 
 pub(super) fn play_file(given: &Given, out: &mut dyn Write) -> Ending {
+    must_have_run()?;
     let name = &given.files[0];
     let file = read(name)?;
     let tools = given.word("--tools").map_or(Tools::Terminal, |program| Tools::Program(program.into()));
