@@ -8,3 +8,4 @@ pub mod CallOut
 pub mod Tries
 pub mod EndTries
 pub mod Steps
+pub mod Finds

@@ -1,8 +1,8 @@
 -- A rule that is tried where the search has stopped, and one that is carried out. Assumes nothing.
 use Prim.Native.Nat.{ℕ, _+_, _-_}
 use mathlib.Core.Path.{_≡_}
-use mathlib.Core.Bool.{Bool}
-use mathlib.Core.List.{List, _∷_}
+use mathlib.Core.Bool.{Bool, cond}
+use mathlib.Core.List.{List, [], _∷_}
 use mathlib.Core.Option.{none}
 use lib.Dec.{eqb, ltb}
 use lib.ListN.{length, getD}
@@ -18,6 +18,8 @@ use Rattle.search.specs.Search.{Room, Changed}
 use Rattle.search.specs.declared.Stand.{Stand}
 use Rattle.runs.specs.Sites.{Whole, Halted, own, Tells}
 use Rattle.runs.specs.declared.Tried.{Tried}
+use Rattle.runs.specs.declared.Tried.the-variants.{Stays}
+use Rattle.runs.specs.declared.Next.{Next}
 
 -- the search has stopped in a whole all of whose rows are in range
 pub record Trying (form : ℕ → Form) (left right frames : List ℕ) (s : Stand) : Type 0 where
@@ -54,3 +56,17 @@ pub record Steps (form : ℕ → Form) (left left′ right right′ frames : Lis
 -- rows that begin with an application of a foreign function
 unfoldable pub callBy : List ℕ → Bool
 callBy rows = eqb (getD rows 0 0) 8 ∧ᵇ (ltb 8 (length rows) ∧ᵇ eqb (getD rows 8 0) 7)
+
+-- The next step ----------------------------------------------------------------------------------------------------
+
+-- no frame is around the tree where the search has stopped
+unfoldable pub atRoot : Stand → Bool
+atRoot s = cond (s .here) (eqb (s .d) 0) (eqb (s .d) 1)
+
+-- the search has come to a rule that goes or sends, or to the root, where everything is passed: the whole is the same
+pub record Found (form : ℕ → Form) (left left′ right frames frames′ : List ℕ) (s : Stand) (n : Next) : Type 0 where
+  pub room : Room left′ right frames′ (n .s)
+  pub rows : n .s .l + (rowCount right - n .s .r) ≡ s .l + (rowCount right - s .r)
+  pub halted : (k : ℕ) (t : Tree) → Whole form k left right frames s t → Halted form k left′ right frames′ (n .s) t
+  pub tries : Tries form left′ right frames′ (n .s) (n .tried)
+  pub at-root : n .tried ≡ Stays → (k : ℕ) (t : Tree) (h : Halted form k left′ right frames′ (n .s) t) → h .outer ≡ []

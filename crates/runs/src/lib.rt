@@ -13,9 +13,11 @@ ghost use Rattle.layout.specs.Rows.{board};
 ghost use Rattle.search.specs.Kept.{rowCount};
 ghost use Rattle.meaning.specs.Types.{Form, formOf};
 ghost use Rattle.meaning.specs.Terms.{Tree};
+ghost use Rattle.meaning.proofs.Trees.EachRow.{Every};
+ghost use Rattle.meaning.proofs.Bytes.RowTables.{legal};
 ghost use Rattle.search.specs.Search.{Room};
 ghost use Rattle.runs.specs.Sites.{Whole, Passing, Halts, GoesOn, InRecord, CallsOut, Calling};
-ghost use Rattle.runs.specs.Tries.{Trying, Tries, Going, Makes, Steps, callBy};
+ghost use Rattle.runs.specs.Tries.{Trying, Tries, Going, Makes, Steps, Found, atRoot, callBy};
 ghost use Rattle.runs.specs.Going.{space, Begins, PutBack, letterFrom};
 
 // What a rule that is tried tells: it stays; it goes, with the rows of its tree and of the tree that it makes; it sends, with the rows of its tree.
@@ -322,4 +324,56 @@ fn step(kept: &mut [u8], work: &mut [u8], frames: &[u32], m: Limits, s: Stand, c
     let e = make_rule(kept, work, m, s, c);
     let at = layout::rows_at(m);
     search::back_up(&kept[at..], work, frames, e)
+}
+
+// Where a search has come to, and what the rule there does.
+pub struct Next {
+    pub s: Stand,
+    pub tried: Tried,
+}
+
+// Whether no frame is around the tree where the search has stopped.
+fn at_root(s: Stand) -> bool
+    ensures { λ b. ⌜ b ≡ atRoot s ⌝ }
+{
+    let here = s.here;
+    if here {
+        return s.d == 0;
+    }
+    s.d == 1
+}
+
+// The search goes on until a rule goes or sends, or everything is passed.
+fn next_step(kept: &mut [u8], work: &[u8], frames: &mut [u32], m: Limits, start: Stand) -> Next
+    requires { ⌜ (length (now kept) ≡ recordBytes (board m)) × (typeCount (now kept) ≤ m .types) × (m .rows ≤ 2048) × (start .l + (rowCount (now work) - start .r) ≤ m .rows) × Room (space (board m) (now kept)) (now work) (now frames) start × ((k : ℕ) × (t : Tree) × (count : ℕ) × Whole (formOf (typesIn (now kept))) k (space (board m) (now kept)) (now work) (now frames) start t × Every (legal count) t) ⌝ }
+    ensures { λ n. ⌜ InRecord (board m) (now (kept .entry)) (now (kept .exit)) × Found (formOf (typesIn (now (kept .entry)))) (space (board m) (now (kept .entry))) (space (board m) (now (kept .exit))) (now (work .entry)) (now (frames .entry)) (now (frames .exit)) start n ⌝ }
+{
+    let mut s = start;
+    loop {
+        let e = seek_in(kept, work, frames, m, s);
+        let x = try_rule(kept, work, frames, m, e);
+        match x {
+            Tried::Goes(old, new) => {
+                return Next {
+                    s: e,
+                    tried: Tried::Goes(old, new),
+                };
+            }
+            Tried::Sends(old) => {
+                return Next {
+                    s: e,
+                    tried: Tried::Sends(old),
+                };
+            }
+            Tried::Stays => {
+                if at_root(e) {
+                    return Next {
+                        s: e,
+                        tried: Tried::Stays,
+                    };
+                }
+                s = stay_on(kept, work, frames, m, e);
+            }
+        }
+    }
 }
