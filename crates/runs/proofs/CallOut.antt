@@ -27,7 +27,7 @@ use Rattle.runs.specs.Sites.{Site, own, Whole, Halted, CallsOut, Calling
 use Rattle.runs.specs.Going.{letterFrom}
 use Rattle.runs.proofs.Sites.{end-rows, end-at, end-behind, site-goes}
 use Rattle.runs.proofs.LetterBytes.{call-width}
-use Rattle.runs.proofs.Letter.{letter-told, future-told, call-long, many}
+use Rattle.runs.proofs.Letter.{letter-told, result-told, future-told, call-long, many}
 
 pub come-length : (right : List ℕ) (r : ℕ) → length (toCome right r) ≡ rowCount right - r
 unfolding toCome
@@ -119,6 +119,9 @@ module _ (left work call frames : List ℕ) (s : Stand) (old next : ℕ) (room :
     -- and the letter
     pub letter-sent : letterFrom next call ≡ letterOf next c
     letter-sent = letter-told form next call (h .tree) c u call-bytes old call-length call-rows g
+
+    pub result-sent : number 2 (drop 2 call) ≡ c .result
+    result-sent = result-told form next call (h .tree) c u call-bytes old call-length call-rows g
 
     -- the whole is smaller by the call's rows but one
     pub smaller : size (top (around (h .outer) (u ∷ h .rest))) + old ≡ s .l + (rowCount work - s .r) + 1

@@ -1,3 +1,8 @@
+pub mod Looping
+pub mod Fronting
+pub mod SendOff
+pub mod Rests
+pub mod SiteSizes
 pub mod Sites
 pub mod OnTheWay
 pub mod PutBack

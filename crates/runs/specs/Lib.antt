@@ -1,3 +1,4 @@
 pub mod Sites
 pub mod Going
 pub mod Tries
+pub mod Loops

@@ -1,5 +1,7 @@
 // A run: the steps of a sound record's term, made in the record's row space and the work buffer.
 use layout::Limits;
+use meaning::Answer;
+use meaning::Run;
 use reduce::Outcome;
 use search::Stand;
 ghost use mathlib.Core.Path.{_≡_};
@@ -19,6 +21,12 @@ ghost use Rattle.search.specs.Search.{Room};
 ghost use Rattle.runs.specs.Sites.{Whole, Passing, Halts, GoesOn, InRecord, CallsOut, Calling};
 ghost use Rattle.runs.specs.Tries.{Trying, Tries, Going, Makes, Steps, Found, atRoot, callBy};
 ghost use Rattle.runs.specs.Going.{space, Begins, PutBack, letterFrom};
+ghost use Rattle.runs.specs.Loops.{TellsValue, SentOff, Ready};
+ghost use Rattle.meaning.specs.Records.{headSound, openCount};
+ghost use Rattle.meaning.specs.Entries.{RunSays};
+ghost use Rattle.meaning.specs.declared.Run.the-variants.{Ran};
+ghost use Rattle.runs.specs.Sites.{Halted, own};
+ghost use Rattle.meaning.specs.Steps.{stay};
 
 // What a rule that is tried tells: it stays; it goes, with the rows of its tree and of the tree that it makes; it sends, with the rows of its tree.
 pub enum Tried {
@@ -376,4 +384,118 @@ fn next_step(kept: &mut [u8], work: &[u8], frames: &mut [u32], m: Limits, start:
             }
         }
     }
+}
+
+// Whether the whole is a value, where everything is passed and the rule at the root stays.
+fn value_at(kept: &[u8], work: &[u8], frames: &[u32], m: Limits, s: Stand) -> bool
+    requires { ⌜ (length (now kept) ≡ recordBytes (board m)) × Room (space (board m) (now kept)) (now work) (now frames) s × ((form : ℕ → Form) × (k : ℕ) × (t : Tree) × Halted form k (space (board m) (now kept)) (now work) (now frames) s t) ⌝ }
+    ensures { λ b. ⌜ TellsValue (space (board m) (now (kept .entry))) (now (work .entry)) (now (frames .entry)) s b ⌝ }
+{
+    let here = s.here;
+    if here {
+        let r = s.r;
+        return search::plain(work[8 * r]);
+    }
+    let at = layout::rows_at(m);
+    let d = s.d;
+    search::value_end(&kept[at..], frames, d - 1)
+}
+
+// The run ends here with an answer.
+fn halt(kept: &mut [u8], work: &mut [u8], m: Limits, s: Stand, a: Answer, made: u32) -> Run
+    requires { ⌜ (length (now kept) ≡ recordBytes (board m)) × (s .r ≤ rowCount (now work)) × (s .l + (rowCount (now work) - s .r) ≤ m .rows) × (length (now work) ≤ 32768) ⌝ }
+    ensures { λ r. ⌜ (r ≡ Ran a made) × PutBack (board m) (now (kept .entry)) (now (kept .exit)) (now (work .entry)) s × (now (work .exit) ≡ replicate (length (now (work .entry))) 0) ⌝ }
+{
+    finish(kept, work, m, s);
+    Run::Ran(a, made)
+}
+
+// The call where the search has stopped is sent: its letter in the work buffer, its future in the record, its entry in the list.
+fn send(kept: &mut [u8], work: &mut [u8], frames: &[u32], m: Limits, s: Stand, o: Outgoing)
+    requires { ⌜ (length (now kept) ≡ recordBytes (board m)) × (headSound (board m) (now kept) ≡ true) × (openCount (now kept) < m .calls) × (m .types ≤ 256) × (m .calls ≤ 64) × Room (space (board m) (now kept)) (now work) (now frames) s × (s .here ≡ false) × (m .rows ≤ 2048) × (s .l + (rowCount (now work) - s .r) ≤ m .rows) × (s .l + 2 ≤ s .r) × Calling (space (board m) (now kept)) (now work) (now frames) s (o .old) (o .next) × (o .next < 65536) × (length (now work) ≤ 32768) ⌝ }
+    ensures { λ _. ⌜ SentOff (board m) (now (kept .entry)) (now (kept .exit)) (now (work .entry)) (now (work .exit)) (now (frames .entry)) s (o .old) (o .next) ⌝ }
+{
+    let old = o.old;
+    let next = o.next;
+    let ty = call_type(kept, m, s, old);
+    let list = sound::open_list(kept, m);
+    let e = call_out(kept, work, frames, m, s, o);
+    put_back(kept, work, m, e);
+    keep::renew_calls(kept, m, list.with(next, ty), next + 1);
+    let end = work.len();
+    layout::clear(work, 8 * old - 4, end);
+}
+
+// How many rows there is room for in the place of a tree of old rows.
+fn spare(work: &[u8], m: Limits, s: Stand, old: usize) -> usize
+    requires { ⌜ (s .r ≤ rowCount (now work)) × (s .l + (rowCount (now work) - s .r) ≤ m .rows) × (old ≤ 4096) ⌝ }
+    ensures { λ n. ⌜ n + (s .l + (rowCount (now (work .entry)) - s .r)) ≡ m .rows + old ⌝ }
+{
+    let all = s.l + (layout::term_rows(work) - s.r);
+    m.rows as usize + old - all
+}
+
+// A run on a sound record, with a frame for each row.
+fn go(kept: &mut [u8], work: &mut [u8], frames: &mut [u32], m: Limits, budget: u32) -> Run
+    requires { ⌜ Ready (board m) (now kept) (now work) (now frames) ⌝ }
+    ensures { λ r. ⌜ RunSays (board m) (now (kept .entry)) (now (work .entry)) budget r (now (kept .exit)) (now (work .exit)) ⌝ }
+{
+    let mut s = begin(kept, work, m);
+    let mut made: u32 = 0;
+    loop {
+        let n = next_step(kept, work, frames, m, s);
+        let at = n.s;
+        let x = n.tried;
+        match x {
+            Tried::Stays => {
+                if value_at(kept, work, frames, m, at) {
+                    return halt(kept, work, m, at, Answer::Value, made);
+                }
+                return halt(kept, work, m, at, Answer::Waiting, made);
+            }
+            Tried::Goes(old, new) => {
+                if spare(work, m, at, old) < new {
+                    return halt(kept, work, m, at, Answer::Room, made);
+                }
+                if made == budget {
+                    return halt(kept, work, m, at, Answer::Budget, made);
+                }
+                s = step(kept, work, frames, m, at, Change { old: old, new: new });
+                made += 1;
+            }
+            Tried::Sends(old) => {
+                if m.calls <= sound::head::open_count(kept) {
+                    return halt(kept, work, m, at, Answer::Held, made);
+                }
+                let next = sound::head::next_number(kept);
+                if m.last < next {
+                    return halt(kept, work, m, at, Answer::Numbers, made);
+                }
+                if made == budget {
+                    return halt(kept, work, m, at, Answer::Budget, made);
+                }
+                send(
+                    kept,
+                    work,
+                    frames,
+                    m,
+                    at,
+                    Outgoing {
+                        old: old,
+                        next: next,
+                    },
+                );
+                return Run::Ran(Answer::Sent(next), made + 1);
+            }
+        }
+    }
+}
+
+// A run on a sound record and a work buffer of the board's length.
+pub fn run(kept: &mut [u8], work: &mut [u8], m: Limits, budget: u32) -> Run
+    requires { ⌜ Ready (board m) (now kept) (now work) (replicate 2048 0) ⌝ }
+    ensures { λ r. ⌜ RunSays (board m) (now (kept .entry)) (now (work .entry)) budget r (now (kept .exit)) (now (work .exit)) ⌝ }
+{
+    let mut frames = [0u32; 2048];
+    go(kept, work, &mut frames, m, budget)
 }
