@@ -3,3 +3,4 @@ pub mod VerdictLaws
 pub mod FreshLaws
 pub mod Once
 pub mod ReplyLaws
+pub mod RunLaws

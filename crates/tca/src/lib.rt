@@ -9,6 +9,7 @@ pub mod figures;
 mod fresh;
 mod head;
 pub mod reply;
+pub mod run;
 
 ghost use mathlib.Core.Path.{_≡_};
 ghost use Prim.Native.Nat.{_+_, _*_, _≤_};
