@@ -19,7 +19,7 @@ fn play(file: &[u8], kept: &mut [u8], work: &mut [u8]) {
         refused(v.refusal, v.place);
         return;
     }
-    let a = tca::tca_run(kept, work, 1000);
+    let a = tca::run::tca_run(kept, work, 1000);
     if a.refusal != 0 {
         refused(a.refusal, 0);
         return;
