@@ -10,8 +10,8 @@ use borrow.Author.Tests.{eq-eqb, ne-eqb, lt-ltb, le-ltb, le-leb, lt-leb}
 use lib.ListN.{length, drop, getD, drop-of-length-le, List·getD-eq-default}
 use lib.Seq.{drop-cons}
 use Rattle.meaning.specs.Bytes.{_∧ᵇ_, within, zeros}
-use Rattle.meaning.specs.Types.{formNo, partsNo, result, parts, lastForm, every, nonzero, member, distinct, below, plainOk, listOk, tupleOk, namesOk, functionOk, formFields, fieldsOk, sameNumbers, fresh}
-use Rattle.types.specs.Table.{firstNames, firstTypes}
+use Rattle.meaning.specs.Types.{formNo, partsNo, result, parts, lastForm, every, nonzero, member, distinct, below, plainOk, listOk, tupleOk, namesOk, functionOk, formFields, fieldsOk, sameNumbers}
+use Rattle.types.specs.Table.{firstNames, firstTypes, HeadWord, PairWord}
 
 pub last-other : (e : ℕ) → (e ≡ 1 → ⊥) → lastForm e ≡ 0
 unfolding lastForm
@@ -80,23 +80,25 @@ module _ (l : List ℕ) (k : ℕ) (h : length l ≤ k) where
   unfolding namesOk every distinct _∧ᵇ_
   names-end = rw (drop-of-length-le l {i = k} h)
 
--- the numbers of a row behind its first k pairs
+-- the numbers of a row behind its first k pairs, where v is the k-th pair
 module _ (r : List ℕ) (z : length r ≡ 19) (k : ℕ) where
-  pub rest-name : (v : ℕ) → k < 8 → v ≡ getD r (3 + 2 * k) 0 → (v ≡ 0 → ⊥) → zeros (drop (3 + 2 * k) r) ≡ false
-  rest-name v h e n = zeros-no r (3 + 2 * k) v (omega arith) (sym e) n
-
-  rest-one : (v : ℕ) → k < 8 → v ≡ getD r (3 + 2 * k) 0 → v ≡ 0 → zeros (drop (3 + 2 * k) r) ≡ zeros (drop (4 + 2 * k) r)
-  rest-one v h e q =
+  name-zero : k < 8 → getD r (3 + 2 * k) 0 ≡ 0 → zeros (drop (3 + 2 * k) r) ≡ zeros (drop (4 + 2 * k) r)
+  name-zero h q =
       let f : 3 + 2 * k + 1 ≡ 4 + 2 * k = omega arith in
-      zeros-on r (3 + 2 * k) v (omega arith) (sym e) q ∙ ap (λ (x : ℕ). zeros (drop x r)) f
+      zeros-on r (3 + 2 * k) _ (omega arith) refl q ∙ ap (λ (x : ℕ). zeros (drop x r)) f
 
-  pub rest-type : (v w : ℕ) → k < 8 → v ≡ getD r (3 + 2 * k) 0 → v ≡ 0 → w ≡ getD r (4 + 2 * k) 0 → (w ≡ 0 → ⊥) → zeros (drop (3 + 2 * k) r) ≡ false
-  rest-type v w h e q f n = rest-one v h e q ∙ zeros-no r (4 + 2 * k) w (omega arith) (sym f) n
+  module _ (v : ℕ) (h : k < 8) (w : PairWord r k v) where
+    pub rest-no : (v ≡ 0 → ⊥) → zeros (drop (3 + 2 * k) r) ≡ false
+    rest-no n =
+        elim (ℕ-discrete (getD r (3 + 2 * k) 0) 0) [
+          | no a ↦ zeros-no r (3 + 2 * k) _ (omega arith) refl a
+          | yes q ↦ name-zero h q ∙ zeros-no r (4 + 2 * k) _ (omega arith) refl (λ p. n (omega arith))
+        ]
 
-  pub rest-on : (v w : ℕ) → k < 8 → v ≡ getD r (3 + 2 * k) 0 → v ≡ 0 → w ≡ getD r (4 + 2 * k) 0 → w ≡ 0 → zeros (drop (3 + 2 * k) r) ≡ zeros (drop (3 + 2 * (k + 1)) r)
-  rest-on v w h e q f p =
-      let g : 4 + 2 * k + 1 ≡ 3 + 2 * (k + 1) = omega arith in
-      rest-one v h e q ∙ zeros-on r (4 + 2 * k) w (omega arith) (sym f) p ∙ ap (λ (x : ℕ). zeros (drop x r)) g
+    pub rest-on : v ≡ 0 → zeros (drop (3 + 2 * k) r) ≡ zeros (drop (3 + 2 * (k + 1)) r)
+    rest-on q =
+        let g : 4 + 2 * k + 1 ≡ 3 + 2 * (k + 1) = omega arith in
+        name-zero h (omega arith) ∙ zeros-on r (4 + 2 * k) _ (omega arith) refl (omega arith) ∙ ap (λ (x : ℕ). zeros (drop x r)) g
 
   pub rest-end : 8 ≤ k → zeros (drop (3 + 2 * k) r) ≡ true
   rest-end h = zeros-end r (3 + 2 * k) (omega arith)
@@ -187,48 +189,54 @@ module _ (i : ℕ) (r : List ℕ) (f n : ℕ) (e : f ≡ formNo r) (g : n ≡ pa
 
 -- Equal rows -----------------------------------------------------------------------------------------------------
 
-module _ (l m : List ℕ) (j v w : ℕ) (h : j < length l) (k : j < length m) (e : v ≡ getD l j 0) (f : w ≡ getD m j 0) where
-  pub same-no : (v ≡ w → ⊥) → sameNumbers (drop j l) (drop j m) ≡ false
+module _ (l m : List ℕ) (j : ℕ) (h : j < length l) (k : j < length m) where
+  same-no : (getD l j 0 ≡ getD m j 0 → ⊥) → sameNumbers (drop j l) (drop j m) ≡ false
   unfolding sameNumbers _∧ᵇ_
-  same-no n = rw (drop-cons l j 0 h, drop-cons m j 0 k, ← e, ← f, ne-eqb v w n)
+  same-no n = rw (drop-cons l j 0 h, drop-cons m j 0 k, ne-eqb (getD l j 0) (getD m j 0) n)
 
-  pub same-on : v ≡ w → sameNumbers (drop j l) (drop j m) ≡ sameNumbers (drop (suc j) l) (drop (suc j) m)
+  same-on : getD l j 0 ≡ getD m j 0 → sameNumbers (drop j l) (drop j m) ≡ sameNumbers (drop (suc j) l) (drop (suc j) m)
   unfolding sameNumbers _∧ᵇ_
-  same-on q = rw (drop-cons l j 0 h, drop-cons m j 0 k, ← e, ← f, eq-eqb v w q)
+  same-on q = rw (drop-cons l j 0 h, drop-cons m j 0 k, eq-eqb (getD l j 0) (getD m j 0) q)
 
-module _ (r q : List ℕ) (z : length r ≡ 19) (y : length q ≡ 19) (k : ℕ) where
-  pub pairs-end : 8 ≤ k → sameNumbers (drop (3 + 2 * k) r) (drop (3 + 2 * k) q) ≡ true
-  unfolding sameNumbers
-  pairs-end h = rw (drop-of-length-le r {i = 3 + 2 * k} (omega arith), drop-of-length-le q {i = 3 + 2 * k} (omega arith))
+module _ (r q : List ℕ) (z : length r ≡ 19) (y : length q ≡ 19) where
+  -- two rows with other heads, and with the same, where v and w are the heads
+  module _ (v w : ℕ) (a : HeadWord r v) (b : HeadWord q w) where
+    pub heads-no : (v ≡ w → ⊥) → sameNumbers r q ≡ false
+    heads-no n =
+        elim (ℕ-discrete (getD r 0 0) (getD q 0 0)) [
+          | no e ↦ same-no r q 0 (omega arith) (omega arith) e
+          | yes e ↦ same-on r q 0 (omega arith) (omega arith) e ∙ elim (ℕ-discrete (getD r 1 0) (getD q 1 0)) [
+            | no f ↦ same-no r q 1 (omega arith) (omega arith) f
+            | yes f ↦ same-on r q 1 (omega arith) (omega arith) f ∙ same-no r q 2 (omega arith) (omega arith) (λ g. n (omega arith))
+          ]
+        ]
 
-  module _ (h : k < 8) (v w : ℕ) (e : v ≡ getD r (3 + 2 * k) 0) (f : w ≡ getD q (3 + 2 * k) 0) where
-    pub pair-name : (v ≡ w → ⊥) → sameNumbers (drop (3 + 2 * k) r) (drop (3 + 2 * k) q) ≡ false
-    pair-name n = same-no r q (3 + 2 * k) v w (omega arith) (omega arith) e f n
+    pub heads-on : v ≡ w → sameNumbers r q ≡ sameNumbers (drop 3 r) (drop 3 q)
+    heads-on e =
+        same-on r q 0 (omega arith) (omega arith) (omega arith)
+        ∙ same-on r q 1 (omega arith) (omega arith) (omega arith)
+        ∙ same-on r q 2 (omega arith) (omega arith) (omega arith)
 
-    module _ (x u : ℕ) (p : v ≡ w) (e′ : x ≡ getD r (4 + 2 * k) 0) (f′ : u ≡ getD q (4 + 2 * k) 0) where
-      name-on : sameNumbers (drop (3 + 2 * k) r) (drop (3 + 2 * k) q) ≡ sameNumbers (drop (4 + 2 * k) r) (drop (4 + 2 * k) q)
-      name-on =
-          let c : suc (3 + 2 * k) ≡ 4 + 2 * k = omega arith in
-          same-on r q (3 + 2 * k) v w (omega arith) (omega arith) e f p ∙ ap (λ (d : ℕ). sameNumbers (drop d r) (drop d q)) c
+  module _ (k : ℕ) where
+    name-same : k < 8 → getD r (3 + 2 * k) 0 ≡ getD q (3 + 2 * k) 0 → sameNumbers (drop (3 + 2 * k) r) (drop (3 + 2 * k) q) ≡ sameNumbers (drop (4 + 2 * k) r) (drop (4 + 2 * k) q)
+    name-same h p =
+        let c : suc (3 + 2 * k) ≡ 4 + 2 * k = omega arith in
+        same-on r q (3 + 2 * k) (omega arith) (omega arith) p ∙ ap (λ (d : ℕ). sameNumbers (drop d r) (drop d q)) c
 
-      pub pair-type : (x ≡ u → ⊥) → sameNumbers (drop (3 + 2 * k) r) (drop (3 + 2 * k) q) ≡ false
-      pair-type n = name-on ∙ same-no r q (4 + 2 * k) x u (omega arith) (omega arith) e′ f′ n
+    -- the same of their k-th pairs v and w
+    module _ (h : k < 8) (v w : ℕ) (a : PairWord r k v) (b : PairWord q k w) where
+      pub pairs-no : (v ≡ w → ⊥) → sameNumbers (drop (3 + 2 * k) r) (drop (3 + 2 * k) q) ≡ false
+      pairs-no n =
+          elim (ℕ-discrete (getD r (3 + 2 * k) 0) (getD q (3 + 2 * k) 0)) [
+            | no e ↦ same-no r q (3 + 2 * k) (omega arith) (omega arith) e
+            | yes e ↦ name-same h e ∙ same-no r q (4 + 2 * k) (omega arith) (omega arith) (λ g. n (omega arith))
+          ]
 
-      pub pair-on : x ≡ u → sameNumbers (drop (3 + 2 * k) r) (drop (3 + 2 * k) q) ≡ sameNumbers (drop (3 + 2 * (k + 1)) r) (drop (3 + 2 * (k + 1)) q)
-      pair-on n =
+      pub pairs-on : v ≡ w → sameNumbers (drop (3 + 2 * k) r) (drop (3 + 2 * k) q) ≡ sameNumbers (drop (3 + 2 * (k + 1)) r) (drop (3 + 2 * (k + 1)) q)
+      pairs-on e =
           let c : suc (4 + 2 * k) ≡ 3 + 2 * (k + 1) = omega arith in
-          name-on ∙ same-on r q (4 + 2 * k) x u (omega arith) (omega arith) e′ f′ n ∙ ap (λ (d : ℕ). sameNumbers (drop d r) (drop d q)) c
+          name-same h (omega arith) ∙ same-on r q (4 + 2 * k) (omega arith) (omega arith) (omega arith) ∙ ap (λ (d : ℕ). sameNumbers (drop d r) (drop d q)) c
 
-module _ (old : List (List ℕ)) (r : List ℕ) (j : ℕ) where
-  module _ (s : List ℕ) (h : j < length old) (e : getD old j [] ≡ s) where
-    pub fresh-no : sameNumbers s r ≡ true → fresh (drop j old) r ≡ false
-    unfolding fresh _∧ᵇ_
-    fresh-no q = rw (drop-cons old j [] h, e, q)
-
-    pub fresh-on : sameNumbers s r ≡ false → fresh (drop j old) r ≡ fresh (drop (j + 1) old) r
-    unfolding fresh _∧ᵇ_
-    fresh-on q = rw (add-one j, drop-cons old j [] h, e, q)
-
-  pub fresh-end : length old ≤ j → fresh (drop j old) r ≡ true
-  unfolding fresh
-  fresh-end h = rw (drop-of-length-le old {i = j} h)
+    pub pairs-end : 8 ≤ k → sameNumbers (drop (3 + 2 * k) r) (drop (3 + 2 * k) q) ≡ true
+    unfolding sameNumbers
+    pairs-end h = rw (drop-of-length-le r {i = 3 + 2 * k} (omega arith), drop-of-length-le q {i = 3 + 2 * k} (omega arith))

@@ -1,4 +1,5 @@
 pub mod Laws
 pub mod Checks
 pub mod GroundLaws
+pub mod ChainLaws
 pub mod BadLaws

@@ -4,9 +4,10 @@ ghost use mathlib.Core.Path.{_≡_};
 ghost use Prim.Native.Nat.{_+_, _*_, _≤_, _<_};
 ghost use lib.ListN.{length, drop, set};
 ghost use Rattle.meaning.specs.Bytes.{zeros};
-ghost use Rattle.meaning.specs.Types.{parts, every, below, member, sameNumbers, formOf, ground, lastForm, plainOk, listOk, tupleOk, namesOk, functionOk, fieldsOk, fresh, groundCall, typeOk, badType};
+ghost use Rattle.meaning.specs.Types.{parts, every, below, member, sameNumbers, formOf, ground, lastForm, plainOk, listOk, tupleOk, namesOk, functionOk, fieldsOk, fresh, badType};
 ghost use Rattle.layout.specs.Rows.{found, typeTable};
-ghost use Rattle.types.specs.Table.{typeAt, rowsBefore, firstNames, firstTypes, partsGround, mark, Truthful, Told};
+ghost use Rattle.types.specs.Table.{typeAt, rowsBefore, firstNames, firstTypes, partGround, partsGround, callGround, ownOk, HeadWord, PairWord, mark, Truthful, Told, Knows};
+ghost use Rattle.types.specs.Chains.{hashAt, lastOf, Linked, Chained, Joined};
 
 // How many parts row t has: at most eight are there.
 pub fn part_count(types: &[u8], t: usize) -> usize
@@ -29,6 +30,23 @@ fn last_form(edition: u16) -> u8
     0
 }
 
+// The form, the number of parts and the result of row t as one number, and its k-th pair as one.
+fn head_word(types: &[u8], t: usize) -> u32
+    requires { ⌜ 36 * t + 36 ≤ length (now types) ⌝ }
+    ensures { λ w. ⌜ HeadWord (typeAt (now (types .entry)) t) w ⌝ }
+{
+    layout::form_no(types, t) as u32
+        + 256 * layout::parts_no(types, t) as u32
+        + 65536 * layout::result_no(types, t) as u32
+}
+
+fn pair_word(types: &[u8], t: usize, k: usize) -> u32
+    requires { ⌜ (36 * t + 36 ≤ length (now types)) × (k < 8) ⌝ }
+    ensures { λ w. ⌜ PairWord (typeAt (now (types .entry)) t) k w ⌝ }
+{
+    layout::name_no(types, t, k) as u32 + 65536 * layout::type_no(types, t, k) as u32
+}
+
 // Behind the first n pairs of row t all is zero.
 fn rest_zero(types: &[u8], t: usize, n: usize) -> bool
     requires { ⌜ 36 * t + 36 ≤ length (now types) ⌝ }
@@ -36,10 +54,7 @@ fn rest_zero(types: &[u8], t: usize, n: usize) -> bool
 {
     let mut k = n;
     while k < 8 {
-        if layout::name_no(types, t, k) != 0 {
-            return false;
-        }
-        if layout::type_no(types, t, k) != 0 {
+        if pair_word(types, t, k) != 0 {
             return false;
         }
         k += 1;
@@ -207,29 +222,12 @@ fn same_row(types: &[u8], t: usize, u: usize) -> bool
     requires { ⌜ (36 * t + 36 ≤ length (now types)) × (36 * u + 36 ≤ length (now types)) ⌝ }
     ensures { λ b. ⌜ b ≡ sameNumbers (typeAt (now (types .entry)) t) (typeAt (now (types .entry)) u) ⌝ }
 {
-    if layout::form_no(types, t) != layout::form_no(types, u) {
+    if head_word(types, t) != head_word(types, u) {
         return false;
     }
-    if layout::parts_no(types, t) != layout::parts_no(types, u) {
-        return false;
-    }
-    if layout::result_no(types, t) != layout::result_no(types, u) {
-        return false;
-    }
-    same_pairs(types, t, u)
-}
-
-// The same of the eight pairs.
-fn same_pairs(types: &[u8], t: usize, u: usize) -> bool
-    requires { ⌜ (36 * t + 36 ≤ length (now types)) × (36 * u + 36 ≤ length (now types)) ⌝ }
-    ensures { λ b. ⌜ b ≡ sameNumbers (drop 3 (typeAt (now (types .entry)) t)) (drop 3 (typeAt (now (types .entry)) u)) ⌝ }
-{
     let mut k = 0;
     while k < 8 {
-        if layout::name_no(types, t, k) != layout::name_no(types, u, k) {
-            return false;
-        }
-        if layout::type_no(types, t, k) != layout::type_no(types, u, k) {
+        if pair_word(types, t, k) != pair_word(types, u, k) {
             return false;
         }
         k += 1;
@@ -237,19 +235,50 @@ fn same_pairs(types: &[u8], t: usize, u: usize) -> bool
     true
 }
 
-// No earlier row equals row t.
-fn is_fresh(types: &[u8], t: usize) -> bool
+// The hash of row t: below 256, and one for all equal rows.
+fn row_hash(types: &[u8], t: usize) -> usize
     requires { ⌜ 36 * t + 36 ≤ length (now types) ⌝ }
+    ensures { λ h. ⌜ (h ≡ hashAt (now (types .entry)) t) × (h < 256) ⌝ }
+{
+    let mut sum = head_word(types, t) as u64;
+    let mut weight: u64 = 37;
+    let mut k = 0;
+    while k < 8 {
+        sum += weight * pair_word(types, t, k) as u64;
+        weight = weight * 37 % 65536;
+        k += 1;
+    }
+    (sum % 4294967296 * 2654435769 / 16777216 % 256) as usize
+}
+
+// No earlier row equals row t: one that does is on the chain of its hash, which begins at row `last`, counted from 1.
+fn is_fresh(types: &[u8], links: &[u16; 256], t: usize, last: usize) -> bool
+    requires { ⌜ (36 * t + 36 ≤ length (now types)) × (length (now types) ≤ 9216) × (last ≡ lastOf (hashAt (now types)) t (hashAt (now types) t)) × Linked (now types) (now links) t ⌝ }
     ensures { λ b. ⌜ b ≡ fresh (rowsBefore (now (types .entry)) t) (typeAt (now (types .entry)) t) ⌝ }
 {
-    let mut j = 0;
-    while j < t {
-        if same_row(types, j, t) {
+    let mut j = last;
+    while 0 < j {
+        if same_row(types, j - 1, t) {
             return false;
         }
-        j += 1;
+        j = links[j - 1] as usize;
     }
     true
+}
+
+// If no earlier row equals row t, it joins the chain of its hash.
+fn joins(types: &[u8], heads: &mut [u16; 256], links: &mut [u16; 256], t: usize) -> bool
+    requires { ⌜ (36 * t + 36 ≤ length (now types)) × (length (now types) ≤ 9216) × Chained (now types) (now heads) (now links) t ⌝ }
+    ensures { λ b. ⌜ Joined (now (types .entry)) (now (heads .exit)) (now (links .exit)) t b ⌝ }
+{
+    let h = row_hash(types, t);
+    let last = heads[h];
+    if is_fresh(types, links, t, last as usize) {
+        links[t] = last;
+        heads[h] = (t + 1) as u16;
+        return true;
+    }
+    false
 }
 
 // What is said of type t in the memo.
@@ -316,16 +345,26 @@ pub fn ground_at(types: &[u8], known: &mut [u8; 256], t: usize) -> bool
     ground(types, known, t)
 }
 
-// The arguments of row t are ground.
-fn parts_ground(types: &[u8], known: &mut [u8; 256], t: usize) -> bool
-    requires { ⌜ (36 * t + 36 ≤ length (now types)) × (length (now types) ≤ 9216) × Truthful (now known) (formOf (typeTable (now types))) ⌝ }
-    ensures { λ b. ⌜ Told (formOf (typeTable (now (types .entry)))) (now (known .exit)) (partsGround (formOf (typeTable (now (types .entry)))) (typeAt (now (types .entry)) t)) b ⌝ }
+// Type p is ground, and its number is smaller than t; the memo knows all these.
+fn part_ground(types: &[u8], known: &[u8; 256], t: usize, p: usize) -> bool
+    requires { ⌜ (t ≤ 256) × Knows (now known) (formOf (typeTable (now types))) t ⌝ }
+    ensures { λ b. ⌜ b ≡ partGround (formOf (typeTable (now (types .entry)))) t p ⌝ }
+{
+    if t <= p {
+        return false;
+    }
+    known[p] == 1
+}
+
+// The parts of row t are.
+fn parts_ground(types: &[u8], known: &[u8; 256], t: usize) -> bool
+    requires { ⌜ (36 * t + 36 ≤ length (now types)) × (length (now types) ≤ 9216) × Knows (now known) (formOf (typeTable (now types))) t ⌝ }
+    ensures { λ b. ⌜ b ≡ partsGround (formOf (typeTable (now (types .entry)))) t (typeAt (now (types .entry)) t) ⌝ }
 {
     let n = part_count(types, t);
     let mut k = 0;
     while k < n {
-        let p = layout::type_no(types, t, k) as usize;
-        if ground_at(types, known, p) {
+        if part_ground(types, known, t, layout::type_no(types, t, k) as usize) {
             k += 1;
         } else {
             return false;
@@ -334,25 +373,42 @@ fn parts_ground(types: &[u8], known: &mut [u8; 256], t: usize) -> bool
     true
 }
 
-// If row t is a foreign function, its arguments and its result are ground.
-fn ground_call(types: &[u8], known: &mut [u8; 256], t: usize) -> bool
-    requires { ⌜ (36 * t + 36 ≤ length (now types)) × (length (now types) ≤ 9216) × Truthful (now known) (formOf (typeTable (now types))) ⌝ }
-    ensures { λ b. ⌜ Told (formOf (typeTable (now (types .entry)))) (now (known .exit)) (groundCall (formOf (typeTable (now (types .entry)))) (typeAt (now (types .entry)) t)) b ⌝ }
+// Type t is ground.
+fn is_ground(types: &[u8], known: &[u8; 256], t: usize) -> bool
+    requires { ⌜ (36 * t + 36 ≤ length (now types)) × (length (now types) ≤ 9216) × Knows (now known) (formOf (typeTable (now types))) t ⌝ }
+    ensures { λ b. ⌜ b ≡ ground (formOf (typeTable (now (types .entry)))) t ⌝ }
 {
-    if layout::form_no(types, t) != 7 {
-        return true;
+    let form = layout::form_no(types, t);
+    if form < 4 {
+        return 0 < form;
     }
-    let e = layout::result_no(types, t) as usize;
-    if ground_at(types, known, e) {
+    if form == 4 {
+        return part_ground(types, known, t, layout::result_no(types, t) as usize);
+    }
+    if form == 5 {
         return parts_ground(types, known, t);
     }
     false
 }
 
-// Row t is good behind the earlier ones.
-fn type_ok(types: &[u8], edition: u16, known: &mut [u8; 256], t: usize) -> bool
-    requires { ⌜ (36 * t + 36 ≤ length (now types)) × (length (now types) ≤ 9216) × Truthful (now known) (formOf (typeTable (now types))) ⌝ }
-    ensures { λ b. ⌜ Told (formOf (typeTable (now (types .entry)))) (now (known .exit)) (typeOk edition (rowsBefore (now (types .entry)) t) (typeAt (now (types .entry)) t)) b ⌝ }
+// If row t is a foreign function, its arguments and its result are ground.
+fn ground_call(types: &[u8], known: &[u8; 256], t: usize) -> bool
+    requires { ⌜ (36 * t + 36 ≤ length (now types)) × (length (now types) ≤ 9216) × Knows (now known) (formOf (typeTable (now types))) t ⌝ }
+    ensures { λ b. ⌜ b ≡ callGround (formOf (typeTable (now (types .entry)))) t (typeAt (now (types .entry)) t) ⌝ }
+{
+    if layout::form_no(types, t) != 7 {
+        return true;
+    }
+    if part_ground(types, known, t, layout::result_no(types, t) as usize) {
+        return parts_ground(types, known, t);
+    }
+    false
+}
+
+// Row t is good in itself: all but that it is fresh.
+fn own_ok(types: &[u8], edition: u16, known: &[u8; 256], t: usize) -> bool
+    requires { ⌜ (36 * t + 36 ≤ length (now types)) × (length (now types) ≤ 9216) × Knows (now known) (formOf (typeTable (now types))) t ⌝ }
+    ensures { λ b. ⌜ b ≡ ownOk edition (formOf (typeTable (now (types .entry)))) t (typeAt (now (types .entry)) t) ⌝ }
 {
     let form = layout::form_no(types, t);
     if form == 0 {
@@ -362,29 +418,31 @@ fn type_ok(types: &[u8], edition: u16, known: &mut [u8; 256], t: usize) -> bool
         return false;
     }
     if fields_ok(types, t) {
-        if is_fresh(types, t) {
-            return ground_call(types, known, t);
-        }
-        return false;
+        return ground_call(types, known, t);
     }
     false
 }
 
-// Refusal 6: the first bad row. Whether a row's type is ground is told before the next row, so that no walk goes deep.
+// Refusal 6: the first bad row. Whether a row's type is ground is told before the next row, so that the memo knows all smaller types.
 pub fn bad_type(types: &[u8], edition: u16) -> Found
     requires { ⌜ length (now types) ≤ 9216 ⌝ }
     ensures { λ r. ⌜ found r ≡ badType edition (typeTable (now (types .entry))) ⌝ }
 {
     let count = layout::type_rows(types);
     let mut known = [0u8; 256];
+    let mut heads = [0u16; 256];
+    let mut links = [0u16; 256];
     let mut i = 0;
     while i < count {
-        if type_ok(types, edition, &mut known, i) {
-            ground(types, &mut known, i);
-            i += 1;
-        } else {
+        if !own_ok(types, edition, &known, i) {
             return Found::At(i as u32);
         }
+        if !joins(types, &mut heads, &mut links, i) {
+            return Found::At(i as u32);
+        }
+        let told = is_ground(types, &known, i);
+        remember(&mut known, i, told);
+        i += 1;
     }
     Found::Nothing
 }

@@ -5,9 +5,9 @@ use native.Mathlib.Omega.{arith}
 use lib.ListN.{length, drop}
 use Rattle.meaning.specs.Types.{types as typesOf, parts, formOf, every}
 use Rattle.layout.specs.Rows.{typeTable}
-use Rattle.types.specs.Table.{typeAt, Truthful}
+use Rattle.types.specs.Table.{typeAt, partGround, Truthful}
 use Rattle.types.proofs.Laws.{form-row, row-length, types-length, part-type, parts-few}
-use Rattle.types.proofs.GroundLaws.{partGround, part-low, part-high, ground-low, ground-list, ground-tuple, ground-other, every-no, every-on, every-end, said, tells}
+use Rattle.types.proofs.GroundLaws.{part-low, part-high, ground-low, ground-list, ground-tuple, ground-other, every-no, every-on, every-end, said, tells}
 use borrow.Fn.Kinds.{In}
 use borrow.Fn.PlainCycle.{Measures, is, falls, and}
 use Rattle.types.proofs.ground.Reads as ground

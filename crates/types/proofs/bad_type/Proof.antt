@@ -1,27 +1,32 @@
 -- `types::bad_type` meets its contract: from row i on as from the first. Assumes nothing.
-use Prim.Native.Nat.{_-_, _/_, _≤_, ℕ}
-use mathlib.Core.Path.{_≡_, sym, ap, _∙_}
+use Prim.Native.Nat.{_-_, _/_, _≤_, _+_, ℕ}
+use mathlib.Core.Path.{_≡_, refl, sym, ap, _∙_}
 use native.Mathlib.Omega.{arith}
 use lib.ListN.{length, take, drop}
-use mathlib.Core.Bool.{true, false}
 use mathlib.Core.List.{List}
 use Rattle.meaning.specs.Bytes.{typeRow}
 use Rattle.meaning.specs.Types.{formOf, typeOk, badTypeFrom, badType}
 use Rattle.meaning.proofs.Bytes.Layouts.{length-reads}
 use Rattle.layout.specs.Rows.{typeTable}
-use Rattle.types.specs.Table.{typeAt, Truthful}
-use Rattle.types.proofs.Laws.{row-at}
-use Rattle.types.proofs.BadLaws.{rows-take, bad-here, bad-on, bad-end, bad-all, says-nothing}
+use Rattle.types.specs.Table.{typeAt, Knows}
+use Rattle.types.specs.Chains.{Chained}
+use Rattle.types.proofs.GroundLaws.{knows-none, knows-more}
+use Rattle.types.proofs.ChainLaws.{no-chains}
+use Rattle.types.proofs.BadLaws.{bad-own, bad-old, bad-next, bad-end, bad-all}
+use borrow.Author.Tests.{not-true, not-false}
 use borrow.Author.Needs.{needs}
 use Rattle.types.proofs.bad_type.Statement.{statement}
 use Rattle.types.proofs.bad_type.Tie as tie
 
 abbrev Inv-loop : tie.InvT-loop
-Inv-loop types edition count known₀ i₀ known i =
-    (i ≤ count) × (badTypeFrom edition (take i (typeTable types)) (drop i (typeTable types)) ≡ badType edition (typeTable types)) × Truthful known (formOf (typeTable types))
+Inv-loop types edition count known₀ heads₀ links₀ i₀ known heads links i =
+    (i ≤ count)
+    × (badTypeFrom edition (take i (typeTable types)) (drop i (typeTable types)) ≡ badType edition (typeTable types))
+    × Knows known (formOf (typeTable types)) i
+    × Chained types heads links i
 
 abbrev μ-loop : tie.MeasureT-loop
-μ-loop types edition count known₀ i₀ known i = count - i
+μ-loop types edition count known₀ heads₀ links₀ i₀ known heads links i = count - i
 
 pub bad-type-spec : {M : Type 1} → statement M
 bad-type-spec =
@@ -31,33 +36,40 @@ bad-type-spec =
     μ-loop
     (λ c κs. search needs)
     -- loop-holds
-    (λ c. let a = c .before .before .args in let rows = typeTable (a .types .now) in (omega arith, bad-all (a .edition) rows, says-nothing 256 (formOf rows)))
-    -- type-ok-requires
+    (λ c. let a = c .before .before .args in let rows = typeTable (a .types .now) in (omega arith, bad-all (a .edition) rows, knows-none (formOf rows), no-chains (a .types .now)))
+    -- own-ok-requires
     (λ c κs. (omega arith, omega arith, c .before .before .loop .inv .2))
-    -- ground-requires
-    (λ c κs. (omega arith, omega arith, c .before .before .type-ok .ensures .memo))
-    (λ c. omega arith)
-    (λ c. omega arith)
-    -- loop-again
-    (λ c.
-    let a = c .before .before .before .before .before .before .before .before .before .args in
-    let l = c .before .before .before .before .before .before .loop in
-    let rows = typeTable (a .types .now) in
-    let z = length-reads typeRow (length (a .types .now) / 36) (a .types .now) in
-    let k : typeOk (a .edition) (take (l .i) rows) (typeAt (a .types .now) (l .i)) ≡ true =
-    ap (λ (old : List (List ℕ)). typeOk (a .edition) old (typeAt (a .types .now) (l .i))) (rows-take typeRow (length (a .types .now) / 36) (l .i) (a .types .now) (omega arith)) ∙ sym (c .before .before .before .type-ok .ensures .answer) ∙ c .before .before .if1 .taken in
-    (omega arith, sym (bad-on (a .edition) rows (l .i) _ (omega arith) (row-at (a .types .now) (length (a .types .now) / 36) (l .i) (omega arith)) k) ∙ l .inv .1, c .ground .ensures .memo))
     (λ c. omega arith)
     -- returns
     (λ c.
     let a = c .before .before .before .before .before .before .before .args in
     let l = c .before .before .before .before .loop in
-    let rows = typeTable (a .types .now) in
-    let z = length-reads typeRow (length (a .types .now) / 36) (a .types .now) in
-    let k : typeOk (a .edition) (take (l .i) rows) (typeAt (a .types .now) (l .i)) ≡ false =
-    ap (λ (old : List (List ℕ)). typeOk (a .edition) old (typeAt (a .types .now) (l .i))) (rows-take typeRow (length (a .types .now) / 36) (l .i) (a .types .now) (omega arith)) ∙ sym (c .before .type-ok .ensures .answer) ∙ c .if1 .left in
-    sym (bad-here (a .edition) rows (l .i) _ (omega arith) (row-at (a .types .now) (length (a .types .now) / 36) (l .i) (omega arith)) k) ∙ l .inv .1)
+    sym (bad-own (a .edition) (a .types .now) (l .i) (omega arith) (sym (c .before .own-ok .ensures) ∙ not-true _ (c .if1 .taken))) ∙ l .inv .1)
+    -- joins-requires
+    (λ c κs. (omega arith, omega arith, c .before .before .before .before .before .before .loop .inv .3))
+    (λ c. omega arith)
     -- returns-2
+    (λ c.
+    let a = c .before .before .before .before .before .before .before .before .before .before .before .args in
+    let l = c .before .before .before .before .before .before .before .before .loop in
+    sym (bad-old (a .edition) (a .types .now) (l .i) (omega arith) (sym (c .before .joins .ensures .answer) ∙ not-true _ (c .if2 .taken))) ∙ l .inv .1)
+    -- is-ground-requires
+    (λ c κs. (omega arith, omega arith, c .before .before .before .before .before .before .before .before .before .loop .inv .2))
+    (λ c κs. omega arith)
+    (λ c. omega arith)
+    (λ c. omega arith)
+    -- loop-again
+    (λ c.
+    let a = c .before .before .before .before .before .before .before .before .before .before .before .before .before .before .before .args in
+    let l = c .before .before .before .before .before .before .before .before .before .before .before .before .loop in
+    let form = formOf (typeTable (a .types .now)) in
+    let b = not-false _ (c .before .before .before .before .if2 .left) in (
+      omega arith,
+      sym (bad-next (a .edition) (a .types .now) (l .i) (omega arith) (sym (c .before .before .before .before .before .before .before .before .before .own-ok .ensures) ∙ not-false _ (c .before .before .before .before .before .before .before .before .if1 .left)) (sym (c .before .before .before .before .before .joins .ensures .answer) ∙ b)) ∙ l .inv .1,
+      rw (c .remember .ensures .1) (knows-more (l .known) form (l .i) (l .inv .2) _ (omega arith) (c .before .before .is-ground .ensures)),
+      c .before .before .before .before .before .joins .ensures .chained b,
+    ))
+    -- returns-3
     (λ c.
     let a = c .before .before .before .before .args in
     let l = c .before .loop in

@@ -1,22 +1,21 @@
--- `types::is_fresh` meets its contract: from the j-th earlier row on as from the first. Assumes nothing.
-use Prim.Native.Nat.{_-_}
-use mathlib.Core.Path.{_≡_, refl, sym, _∙_}
+-- `types::is_fresh` meets its contract: before row j of the chain as before row t. Assumes nothing.
+use Prim.Native.Nat.{_-_, _<_, _≤_}
+use mathlib.Core.Path.{_≡_, ap, sym, _∙_}
 use native.Mathlib.Omega.{arith}
-use lib.ListN.{drop}
-use Rattle.meaning.specs.Bytes.{typeRow}
+use lib.ListN.{getD}
 use Rattle.meaning.specs.Types.{fresh}
-use Rattle.meaning.proofs.Bytes.Layouts.{length-reads}
 use Rattle.types.specs.Table.{typeAt, rowsBefore}
-use Rattle.types.proofs.Laws.{row-at}
-use Rattle.types.proofs.Checks.{fresh-no, fresh-on, fresh-end}
+use Rattle.types.specs.Chains.{hash, hashAt, lastOf}
+use Rattle.types.proofs.ChainLaws.{last-low, last-key, fresh-last, chain-same, chain-on, fresh-none}
 use Rattle.types.proofs.is_fresh.Statement.{statement}
 use Rattle.types.proofs.is_fresh.Tie as tie
 
 abbrev Inv-loop : tie.InvT-loop
-Inv-loop types t j₀ j = fresh (drop j (rowsBefore types t)) (typeAt types t) ≡ fresh (rowsBefore types t) (typeAt types t)
+Inv-loop types links t last j₀ j =
+    (j ≤ t) × (0 < j → hashAt types (j - 1) ≡ hashAt types t) × (fresh (rowsBefore types j) (typeAt types t) ≡ fresh (rowsBefore types t) (typeAt types t))
 
 abbrev μ-loop : tie.MeasureT-loop
-μ-loop types t j₀ j = t - j
+μ-loop types links t last j₀ j = j
 
 pub is-fresh-spec : {M : Type 1} → statement M
 is-fresh-spec =
@@ -24,31 +23,49 @@ is-fresh-spec =
     (tie.spec
     Inv-loop
     μ-loop
-    (λ c. refl)
+    -- loop-holds
+    (λ c.
+    let a = c .before .args in
+    let s = a .types .now in
+    let r = typeAt s (a .t) in
+    let e = c .before .pre .2 in
+    (omega (arith, last-low (hashAt s) (hash r) (a .t)), last-key (hashAt s) (hash r) (a .t) (a .last) e, rw e (fresh-last s r (a .t))))
+    (λ c. omega arith)
     (λ c κs. omega arith)
     -- returns
     (λ c.
     let a = c .before .before .before .before .before .args in
+    let s = a .types .now in
     let l = c .before .before .before .loop in
-    let old = rowsBefore (a .types .now) (a .t) in
-    let r = typeAt (a .types .now) (a .t) in
-    let z = length-reads typeRow (a .t) (a .types .now) in
-    sym (fresh-no old r (l .j) _ (omega arith) (row-at (a .types .now) (a .t) (l .j) (omega arith)) (sym (c .before .same-row .ensures) ∙ c .if1 .taken)) ∙ l .inv)
+    sym (chain-same s (typeAt s (a .t)) (l .j) (omega arith) (sym (c .before .same-row .ensures) ∙ c .if1 .taken)) ∙ l .inv .2)
     (λ c. omega arith)
     (λ c. omega arith)
+    (λ c. omega arith)
+    -- cast-j
+    (λ c.
+    let a = c .before .before .before .before .before .before .args in
+    let s = a .types .now in
+    let l = c .before .before .before .before .loop in
+    let e = c .before .before .before .before .before .before .pre .3 .link (l .j - 1) (omega arith) in
+    omega (arith, last-low (hashAt s) (hashAt s (l .j - 1)) (l .j - 1)))
+    -- loop-less
+    (λ c.
+    let a = c .before .before .before .before .before .before .args in
+    let s = a .types .now in
+    let l = c .before .before .before .before .loop in
+    let e = c .before .before .before .before .before .before .pre .3 .link (l .j - 1) (omega arith) in
+    omega (arith, last-low (hashAt s) (hashAt s (l .j - 1)) (l .j - 1)))
     -- loop-again
     (λ c.
-    let a = c .before .before .before .before .before .args in
-    let l = c .before .before .before .loop in
-    let old = rowsBefore (a .types .now) (a .t) in
-    let r = typeAt (a .types .now) (a .t) in
-    let z = length-reads typeRow (a .t) (a .types .now) in
-    sym (fresh-on old r (l .j) _ (omega arith) (row-at (a .types .now) (a .t) (l .j) (omega arith)) (sym (c .before .same-row .ensures) ∙ c .if1 .left)) ∙ l .inv)
+    let a = c .before .before .before .before .before .before .args in
+    let s = a .types .now in
+    let l = c .before .before .before .before .loop in
+    let r = typeAt s (a .t) in
+    let e : getD (a .links .now) (l .j - 1) 0 ≡ lastOf (hashAt s) (l .j - 1) (hash r) = c .before .before .before .before .before .before .pre .3 .link (l .j - 1) (omega arith) ∙ ap (lastOf (hashAt s) (l .j - 1)) (l .inv .1 (omega arith)) in
+    (omega (arith, last-low (hashAt s) (hash r) (l .j - 1)), last-key (hashAt s) (hash r) (l .j - 1) _ e, chain-on s r (l .j) (omega arith) _ (sym (c .before .before .same-row .ensures) ∙ c .before .if1 .left) e ∙ l .inv .2))
     -- returns-2
     (λ c.
     let a = c .before .before .before .args in
+    let s = a .types .now in
     let l = c .before .loop in
-    let old = rowsBefore (a .types .now) (a .t) in
-    let r = typeAt (a .types .now) (a .t) in
-    let z = length-reads typeRow (a .t) (a .types .now) in
-    sym (fresh-end old r (l .j) (omega arith)) ∙ l .inv))
+    sym (fresh-none s (typeAt s (a .t)) (l .j) (omega arith)) ∙ l .inv .2))

@@ -6,7 +6,7 @@ use lib.ListN.{drop}
 use Rattle.meaning.specs.Bytes.{zeros}
 use Rattle.types.specs.Table.{typeAt}
 use Rattle.types.proofs.Laws.{row-length}
-use Rattle.types.proofs.Checks.{rest-name, rest-type, rest-on, rest-end}
+use Rattle.types.proofs.Checks.{rest-no, rest-on, rest-end}
 use Rattle.types.proofs.rest_zero.Statement.{statement}
 use Rattle.types.proofs.rest_zero.Tie as tie
 
@@ -30,25 +30,17 @@ rest-zero-spec =
     let l = c .before .before .before .loop in
     let r = typeAt (a .types .now) (a .t) in
     let z = row-length (drop (36 * a .t) (a .types .now)) in
-    sym (rest-name r z (l .k) _ (omega arith) (c .before .name-no .ensures) (c .if1 .taken)) ∙ l .inv)
-    (λ c κs. omega arith)
-    -- returns-2
-    (λ c.
-    let a = c .before .before .before .before .before .before .before .args in
-    let l = c .before .before .before .before .before .loop in
-    let r = typeAt (a .types .now) (a .t) in
-    let z = row-length (drop (36 * a .t) (a .types .now)) in
-    sym (rest-type r z (l .k) _ _ (omega arith) (c .before .before .before .name-no .ensures) (c .before .before .if1 .left) (c .before .type-no .ensures) (c .if2 .taken)) ∙ l .inv)
+    sym (rest-no r z (l .k) _ (omega arith) (c .before .pair-word .ensures) (c .if1 .taken)) ∙ l .inv)
     (λ c. omega arith)
     (λ c. omega arith)
     -- loop-again
     (λ c.
-    let a = c .before .before .before .before .before .before .before .args in
-    let l = c .before .before .before .before .before .loop in
+    let a = c .before .before .before .before .before .args in
+    let l = c .before .before .before .loop in
     let r = typeAt (a .types .now) (a .t) in
     let z = row-length (drop (36 * a .t) (a .types .now)) in
-    sym (rest-on r z (l .k) _ _ (omega arith) (c .before .before .before .name-no .ensures) (c .before .before .if1 .left) (c .before .type-no .ensures) (c .if2 .left)) ∙ l .inv)
-    -- returns-3
+    sym (rest-on r z (l .k) _ (omega arith) (c .before .pair-word .ensures) (c .if1 .left)) ∙ l .inv)
+    -- returns-2
     (λ c.
     let a = c .before .before .before .args in
     let l = c .before .loop in
