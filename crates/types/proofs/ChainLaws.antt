@@ -1,22 +1,21 @@
 -- A row's hash, and that a row equal to another is on the chain of its hash. Assumes nothing.
 use Prim.Native.Nat.{ℕ, zero, suc, _+_, _*_, _/_, _%_, _-_, _<_, _≤_}
 use mathlib.Core.Path.{_≡_, refl, ap, sym, _∙_}
-use mathlib.Core.Bool.{Bool, true, false, cond, not}
+use mathlib.Core.Bool.{Bool, true, false, not}
 use mathlib.Core.List.{List, [], _∷_, _++_}
 use native.Mathlib.Omega.{arith}
 use native.Mathlib.Decide.{ℕ-discrete}
-use native.Mathlib.Nat.{mul-le-mul-left, mul-le-mul-right}
+use native.Mathlib.Nat.{mul-le-mul-left}
 use native.Mathlib.Numerals.{add-one}
 use borrow.Author.Tests.{eq-eqb, ne-eqb}
-use lib.Dec.{eqb}
 use lib.ListN.{length, drop, getD, set, length-set, replicate, getD-replicate, drop-of-length-le}
 use lib.Seq.{drop-cons, getD-set-same, getD-set-other}
 use Rattle.meaning.specs.Bytes.{_∧ᵇ_, width, reads, typeRow}
 use Rattle.meaning.specs.Types.{formNo, partsNo, result, sameNumbers, fresh}
 use Rattle.meaning.proofs.Trees.Tests.{numbers-is}
 use Rattle.layout.proofs.Tables.{reads-split}
-use Rattle.types.specs.Table.{typeAt, rowsBefore, HeadWord, PairWord}
-use Rattle.types.specs.Chains.{weigh, hash, hashAt, lastOf, Linked, Chained}
+use Rattle.types.specs.Table.{typeAt, rowsBefore, PairWord}
+use Rattle.types.specs.Chains.{weigh, hash, hashAt, lastOf, Chained}
 
 -- The hash -------------------------------------------------------------------------------------------------------
 

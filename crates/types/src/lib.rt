@@ -261,7 +261,7 @@ fn is_fresh(types: &[u8], links: &[u16; 256], t: usize, last: usize) -> bool
         if same_row(types, j - 1, t) {
             return false;
         }
-        j = links[j - 1] as usize;
+        j = layout::wide(links[j - 1]);
     }
     true
 }
@@ -273,7 +273,7 @@ fn joins(types: &[u8], heads: &mut [u16; 256], links: &mut [u16; 256], t: usize)
 {
     let h = row_hash(types, t);
     let last = heads[h];
-    if is_fresh(types, links, t, last as usize) {
+    if is_fresh(types, links, t, layout::wide(last)) {
         links[t] = last;
         heads[h] = (t + 1) as u16;
         return true;

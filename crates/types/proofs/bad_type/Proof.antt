@@ -1,14 +1,13 @@
 -- `types::bad_type` meets its contract: from row i on as from the first. Assumes nothing.
-use Prim.Native.Nat.{_-_, _/_, _≤_, _+_, ℕ}
-use mathlib.Core.Path.{_≡_, refl, sym, ap, _∙_}
+use Prim.Native.Nat.{_-_, _/_, _≤_}
+use mathlib.Core.Path.{_≡_, sym, _∙_}
 use native.Mathlib.Omega.{arith}
 use lib.ListN.{length, take, drop}
-use mathlib.Core.List.{List}
 use Rattle.meaning.specs.Bytes.{typeRow}
-use Rattle.meaning.specs.Types.{formOf, typeOk, badTypeFrom, badType}
+use Rattle.meaning.specs.Types.{formOf, badTypeFrom, badType}
 use Rattle.meaning.proofs.Bytes.Layouts.{length-reads}
 use Rattle.layout.specs.Rows.{typeTable}
-use Rattle.types.specs.Table.{typeAt, Knows}
+use Rattle.types.specs.Table.{Knows}
 use Rattle.types.specs.Chains.{Chained}
 use Rattle.types.proofs.GroundLaws.{knows-none, knows-more}
 use Rattle.types.proofs.ChainLaws.{no-chains}

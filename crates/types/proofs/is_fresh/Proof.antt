@@ -2,7 +2,6 @@
 use Prim.Native.Nat.{_-_, _<_, _≤_}
 use mathlib.Core.Path.{_≡_, ap, sym, _∙_}
 use native.Mathlib.Omega.{arith}
-use lib.ListN.{getD}
 use Rattle.meaning.specs.Types.{fresh}
 use Rattle.types.specs.Table.{typeAt, rowsBefore}
 use Rattle.types.specs.Chains.{hash, hashAt, lastOf}
@@ -41,28 +40,22 @@ is-fresh-spec =
     (λ c. omega arith)
     (λ c. omega arith)
     (λ c. omega arith)
-    -- cast-j
-    (λ c.
-    let a = c .before .before .before .before .before .before .args in
-    let s = a .types .now in
-    let l = c .before .before .before .before .loop in
-    let e = c .before .before .before .before .before .before .pre .3 .link (l .j - 1) (omega arith) in
-    omega (arith, last-low (hashAt s) (hashAt s (l .j - 1)) (l .j - 1)))
+    (λ c κs. omega arith)
     -- loop-less
     (λ c.
-    let a = c .before .before .before .before .before .before .args in
+    let a = c .before .before .before .before .before .before .before .args in
     let s = a .types .now in
-    let l = c .before .before .before .before .loop in
-    let e = c .before .before .before .before .before .before .pre .3 .link (l .j - 1) (omega arith) in
+    let l = c .before .before .before .before .before .loop in
+    let e = c .before .before .before .before .before .before .before .pre .3 .link (l .j - 1) (omega arith) in
     omega (arith, last-low (hashAt s) (hashAt s (l .j - 1)) (l .j - 1)))
     -- loop-again
     (λ c.
-    let a = c .before .before .before .before .before .before .args in
+    let a = c .before .before .before .before .before .before .before .args in
     let s = a .types .now in
-    let l = c .before .before .before .before .loop in
+    let l = c .before .before .before .before .before .loop in
     let r = typeAt s (a .t) in
-    let e : getD (a .links .now) (l .j - 1) 0 ≡ lastOf (hashAt s) (l .j - 1) (hash r) = c .before .before .before .before .before .before .pre .3 .link (l .j - 1) (omega arith) ∙ ap (lastOf (hashAt s) (l .j - 1)) (l .inv .1 (omega arith)) in
-    (omega (arith, last-low (hashAt s) (hash r) (l .j - 1)), last-key (hashAt s) (hash r) (l .j - 1) _ e, chain-on s r (l .j) (omega arith) _ (sym (c .before .before .same-row .ensures) ∙ c .before .if1 .left) e ∙ l .inv .2))
+    let e : c .wide .result ≡ lastOf (hashAt s) (l .j - 1) (hash r) = c .wide .ensures ∙ c .before .before .before .before .before .before .before .pre .3 .link (l .j - 1) (omega arith) ∙ ap (lastOf (hashAt s) (l .j - 1)) (l .inv .1 (omega arith)) in
+    (omega (arith, last-low (hashAt s) (hash r) (l .j - 1)), last-key (hashAt s) (hash r) (l .j - 1) _ e, chain-on s r (l .j) (omega arith) _ (sym (c .before .before .before .same-row .ensures) ∙ c .before .before .if1 .left) e ∙ l .inv .2))
     -- returns-2
     (λ c.
     let a = c .before .before .before .args in

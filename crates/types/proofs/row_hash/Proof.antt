@@ -1,6 +1,6 @@
 -- `types::row_hash` meets its contract: the sum so far with what the pairs from the k-th on weigh is the whole sum. Assumes nothing.
 use Prim.Native.Nat.{_-_, _+_, _*_, _<_, _≤_}
-use mathlib.Core.Path.{_≡_, sym, _∙_}
+use mathlib.Core.Path.{_≡_}
 use native.Mathlib.Omega.{arith}
 use lib.ListN.{drop}
 use Rattle.meaning.specs.Types.{formNo, partsNo, result}
