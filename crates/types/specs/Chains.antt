@@ -1,4 +1,4 @@
--- Rows of one hash in chains: where a row stands that may equal another. Assumes nothing.
+-- Rows of one hash in chains: a row that equals row t is on the chain of its hash. Assumes nothing.
 use Prim.Native.Nat.{ℕ, zero, suc, _+_, _*_, _/_, _%_, _<_}
 use mathlib.Core.Path.{_≡_}
 use mathlib.Core.Bool.{Bool, true, cond}
@@ -8,7 +8,7 @@ use lib.ListN.{length, drop, getD}
 use Rattle.meaning.specs.Types.{formNo, partsNo, result, fresh}
 use Rattle.types.specs.Table.{typeAt, rowsBefore}
 
--- pairs of numbers by weights that differ, and a row's hash: below 256
+-- a row's hash, below 256: its words by weights that differ, then spread
 unfoldable pub weigh : List ℕ → ℕ → ℕ
 weigh [] w = 0
 weigh (x ∷ []) w = 0

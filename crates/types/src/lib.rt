@@ -235,7 +235,8 @@ fn same_row(types: &[u8], t: usize, u: usize) -> bool
     true
 }
 
-// The hash of row t: below 256, and one for all equal rows.
+// The hash of row t: below 256, and one for all equal rows. The weights are powers of 37; the last factor, 2^32 by the golden
+// ratio, spreads sums that lie close together.
 fn row_hash(types: &[u8], t: usize) -> usize
     requires { ⌜ 36 * t + 36 ≤ length (now types) ⌝ }
     ensures { λ h. ⌜ (h ≡ hashAt (now (types .entry)) t) × (h < 256) ⌝ }
@@ -345,7 +346,7 @@ pub fn ground_at(types: &[u8], known: &mut [u8; 256], t: usize) -> bool
     ground(types, known, t)
 }
 
-// Type p is ground, and its number is smaller than t; the memo knows all these.
+// Type p is ground, and its number is smaller than t: the memo knows all these.
 fn part_ground(types: &[u8], known: &[u8; 256], t: usize, p: usize) -> bool
     requires { ⌜ (t ≤ 256) × Knows (now known) (formOf (typeTable (now types))) t ⌝ }
     ensures { λ b. ⌜ b ≡ partGround (formOf (typeTable (now (types .entry)))) t p ⌝ }
@@ -356,7 +357,7 @@ fn part_ground(types: &[u8], known: &[u8; 256], t: usize, p: usize) -> bool
     known[p] == 1
 }
 
-// The parts of row t are.
+// Each part of row t is ground, and its number is smaller.
 fn parts_ground(types: &[u8], known: &[u8; 256], t: usize) -> bool
     requires { ⌜ (36 * t + 36 ≤ length (now types)) × (length (now types) ≤ 9216) × Knows (now known) (formOf (typeTable (now types))) t ⌝ }
     ensures { λ b. ⌜ b ≡ partsGround (formOf (typeTable (now (types .entry)))) t (typeAt (now (types .entry)) t) ⌝ }
@@ -405,7 +406,7 @@ fn ground_call(types: &[u8], known: &[u8; 256], t: usize) -> bool
     false
 }
 
-// Row t is good in itself: all but that it is fresh.
+// Row t is good, but for rows before it that it may equal.
 fn own_ok(types: &[u8], edition: u16, known: &[u8; 256], t: usize) -> bool
     requires { ⌜ (36 * t + 36 ≤ length (now types)) × (length (now types) ≤ 9216) × Knows (now known) (formOf (typeTable (now types))) t ⌝ }
     ensures { λ b. ⌜ b ≡ ownOk edition (formOf (typeTable (now (types .entry)))) t (typeAt (now (types .entry)) t) ⌝ }
