@@ -18,10 +18,10 @@ use Rattle.meaning.proofs.Trees.Tests.{left, right, both}
 use Rattle.meaning.proofs.Bytes.Layouts.{length-reads}
 use Rattle.meaning.proofs.Bytes.TypeTables.{ground-below}
 use Rattle.layout.specs.Rows.{typeTable}
-use Rattle.types.specs.Table.{typeAt, rowsBefore, partGround, partsGround, callGround, ownOk, Truthful}
+use Rattle.types.specs.Table.{typeAt, rowsBefore, partsGround, ownOk, Truthful}
 use Rattle.types.proofs.Laws.{row-at, form-row, form-absent}
 use Rattle.types.proofs.Checks.{fields-function}
-use Rattle.types.proofs.GroundLaws.{ground-parts, part-low}
+use Rattle.types.proofs.GroundLaws.{ground-parts, partGround}
 use Rattle.types.proofs.ChainLaws.{and-true, and-false}
 
 -- a number beyond the table is not ground
@@ -31,18 +31,18 @@ ground-beyond s t h = ground-parts _ t ∙ ap (groundForm (partGround (formOf (t
 
 -- Foreign functions ----------------------------------------------------------------------------------------------
 
-module _ (form : ℕ → Form) (t : ℕ) (r : List ℕ) (f : ℕ) (e : f ≡ formNo r) where
-  pub call-other : (f ≡ 7 → ⊥) → callGround form t r ≡ true
-  unfolding callGround
+module _ (form : ℕ → Form) (r : List ℕ) (f : ℕ) (e : f ≡ formNo r) where
+  pub call-other : (f ≡ 7 → ⊥) → groundCall form r ≡ true
+  unfolding groundCall
   call-other n = rw (← e, ne-eqb f 7 n)
 
   module _ (q : f ≡ 7) (v : ℕ) (g : v ≡ result r) where
-    pub call-parts : partGround form t v ≡ true → callGround form t r ≡ partsGround form t r
-    unfolding callGround _∧ᵇ_
+    pub call-parts : ground form v ≡ true → groundCall form r ≡ partsGround form r
+    unfolding groundCall partsGround _∧ᵇ_
     call-parts k = rw (← e, q, ← g, k)
 
-    pub call-result : partGround form t v ≡ false → callGround form t r ≡ false
-    unfolding callGround _∧ᵇ_
+    pub call-result : ground form v ≡ false → groundCall form r ≡ false
+    unfolding groundCall _∧ᵇ_
     call-result k = rw (← e, q, ← g, k)
 
 -- what is asked of a foreign function's row goes by the rows below it
@@ -70,19 +70,15 @@ call-below i r e h =
 forms-agree : (s : List ℕ) (i p : ℕ) → 36 * i ≤ length s → p < i → formOf (rowsBefore s i) p ≡ formOf (typeTable s) p
 forms-agree s i p h k = form-row s i p k ∙ sym (form-row s (length s / 36) p (omega arith))
 
-call-same : (f g : ℕ → Form) (i : ℕ) (r : List ℕ) → formNo r ≡ 7 → (result r < i) × (every (below i) (types (parts r)) ≡ true) → ((t : ℕ) → t < i → ground f t ≡ partGround g i t) → groundCall f r ≡ callGround g i r
-unfolding groundCall callGround partsGround
-call-same f g i r q b a = rw (q, a (result r) (b .0), every-agree (ground f) (partGround g i) i (types (parts r)) (b .1) a)
-
-call-free : (form : ℕ → Form) (r : List ℕ) → (formNo r ≡ 7 → ⊥) → groundCall form r ≡ true
+call-same : (f g : ℕ → Form) (i : ℕ) (r : List ℕ) → formNo r ≡ 7 → (result r < i) × (every (below i) (types (parts r)) ≡ true) → ((t : ℕ) → t < i → ground f t ≡ ground g t) → groundCall f r ≡ groundCall g r
 unfolding groundCall
-call-free form r n = rw (ne-eqb (formNo r) 7 n)
+call-same f g i r q b a = rw (q, a (result r) (b .0), every-agree (ground f) (ground g) i (types (parts r)) (b .1) a)
 
-call-agree : (s : List ℕ) (i : ℕ) (r : List ℕ) → 36 * i ≤ length s → fieldsOk i r ≡ true → groundCall (formOf (rowsBefore s i)) r ≡ callGround (formOf (typeTable s)) i r
+call-agree : (s : List ℕ) (i : ℕ) (r : List ℕ) → 36 * i ≤ length s → fieldsOk i r ≡ true → groundCall (formOf (rowsBefore s i)) r ≡ groundCall (formOf (typeTable s)) r
 call-agree s i r h f =
     elim (ℕ-discrete (formNo r) 7) [
-      | no n ↦ call-free _ r n ∙ sym (call-other _ i r (formNo r) refl n)
-      | yes q ↦ call-same _ _ i r q (call-below i r q f) (λ t l. ground-below _ _ t (λ p k. forms-agree s i p h (omega arith)) ∙ sym (part-low _ i t l))
+      | no n ↦ call-other _ r (formNo r) refl n ∙ sym (call-other _ r (formNo r) refl n)
+      | yes q ↦ call-same _ _ i r q (call-below i r q f) (λ t l. ground-below _ _ t (λ p k. forms-agree s i p h (omega arith)))
     ]
 
 -- A row --------------------------------------------------------------------------------------------------------
@@ -101,7 +97,7 @@ module _ (edition : ℕ) (form : ℕ → Form) (t : ℕ) (r : List ℕ) (f last 
     unfolding ownOk within _∧ᵇ_
     own-fields q = rw (← e, ← g, le-leb 1 f (omega arith), le-leb f last b, q)
 
-    pub own-call : fieldsOk t r ≡ true → ownOk edition form t r ≡ callGround form t r
+    pub own-call : fieldsOk t r ≡ true → ownOk edition form t r ≡ groundCall form r
     unfolding ownOk within _∧ᵇ_
     own-call q = rw (← e, ← g, le-leb 1 f (omega arith), le-leb f last b, q)
 

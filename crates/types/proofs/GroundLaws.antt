@@ -7,15 +7,19 @@ use mathlib.Core.List.{List}
 use native.Mathlib.Omega.{arith}
 use native.Mathlib.Numerals.{add-one}
 use native.Mathlib.Decide.{decLt, ℕ-discrete}
-use borrow.Author.Tests.{lt-ltb, le-ltb}
+use borrow.Author.Tests.{eq-eqb, lt-ltb, le-ltb}
 use lib.Dec.{eqb, ltb}
-use lib.ListN.{length, drop, getD, set, length-set, replicate, drop-of-length-le}
+use lib.ListN.{length, drop, getD, set, drop-of-length-le}
 use lib.Seq.{drop-cons, getD-set-same, getD-set-other, set-out}
 use Rattle.meaning.specs.Bytes.{_∧ᵇ_}
 use Rattle.meaning.specs.Types.{Form, types, formNo, result, parts, formRow, every, groundForm, ground}
 use Rattle.meaning.proofs.Bytes.TypeTables.{ground-eq}
-use Rattle.types.specs.Table.{partGround, partsGround, mark, Truthful, Told, Knows}
+use Rattle.types.specs.Table.{mark, Truthful, Told}
 use Rattle.types.proofs.Laws.{row-none, row-str, row-file, row-truth, row-list, row-tuple, row-native, row-foreign, row-beyond}
+
+-- a part is ground where its number is smaller and it is ground
+unfoldable pub partGround : (ℕ → Form) → ℕ → ℕ → Bool
+partGround form t p = ltb p t ∧ᵇ ground form p
 
 pub ground-parts : (form : ℕ → Form) (t : ℕ) → ground form t ≡ groundForm (partGround form t) (form t)
 unfolding partGround
@@ -58,10 +62,6 @@ module _ (form : ℕ → Form) (t : ℕ) (r : List ℕ) (m : form t ≡ formRow 
   unfolding groundForm
   ground-tuple q = by-row _ (row-tuple r f e q)
 
-  pub ground-all : f ≡ 5 → ground form t ≡ partsGround form t r
-  unfolding partsGround
-  ground-all q = ground-tuple q
-
   pub ground-other : 4 ≤ f → (f ≡ 4 → ⊥) → (f ≡ 5 → ⊥) → ground form t ≡ false
   unfolding groundForm
   ground-other h a b =
@@ -86,19 +86,22 @@ every-end p l k h = rw (drop-of-length-le l {i = k} h)
 
 -- The memo -------------------------------------------------------------------------------------------------------
 
-marked : (b : Bool) → eqb (mark b) 1 ≡ b
-marked true = refl
-marked false = refl
-
 module _ (known : List ℕ) (form : ℕ → Form) (m : Truthful known form) (t : ℕ) where
   -- what it says is true
   said-is : (x : ℕ) → (x ≡ 0) ⊎ (x ≡ mark (ground form t)) → (x ≡ 0 → ⊥) → eqb x 1 ≡ ground form t
   said-is x (inl e) n = absurd (n e)
   said-is x (inr e) n = rw e (marked (ground form t))
+    where
+      marked : (b : Bool) → eqb (mark b) 1 ≡ b
+      marked true = refl
+      marked false = refl
 
   pub said : (getD known t 0 ≡ 0 → ⊥) → eqb (getD known t 0) 1 ≡ ground form t
   unfolding Truthful
   said n = said-is (getD known t 0) (m t) n
+
+  pub said-yes : getD known t 0 ≡ 1 → ground form t ≡ true
+  said-yes e = sym (said (λ z. omega arith)) ∙ eq-eqb (getD known t 0) 1 e
 
   remembered : (b : Bool) → b ≡ ground form t → Truthful (set known t (mark b)) form
   unfolding Truthful
@@ -114,21 +117,3 @@ module _ (known : List ℕ) (form : ℕ → Form) (m : Truthful known form) (t :
   -- the memo is told of type t
   pub tells : (known′ : List ℕ) (b r : Bool) → (r ≡ b) × (known′ ≡ set known t (mark b)) → ground form t ≡ b → Told form known′ (ground form t) r
   tells known′ b r (p, q) e = record { answer = p ∙ sym e; memo = rw q (remembered b (sym e)) }
-
--- a memo that knows all types below t: what it says of a part, and of type t next
-pub knows-none : (form : ℕ → Form) → Knows (replicate 256 0) form 0
-knows-none form = record { sized = refl; told = λ p h. absurd (omega arith) }
-
-module _ (known : List ℕ) (form : ℕ → Form) (t : ℕ) (m : Knows known form t) where
-  pub part-known : (p : ℕ) → p < t → eqb (getD known p 0) 1 ≡ partGround form t p
-  part-known p h = rw (m .told p h, part-low form t p h) (marked (ground form p))
-
-  pub knows-more : (b : Bool) → t < 256 → b ≡ ground form t → Knows (set known t (mark b)) form (t + 1)
-  knows-more b h e = record { sized = simp length-set (m .sized); told = told-more }
-    where
-      told-more : (p : ℕ) → p < t + 1 → getD (set known t (mark b)) p 0 ≡ mark (ground form p)
-      told-more p k =
-          elim (ℕ-discrete p t) [
-            | no n ↦ rw (getD-set-other known t p (mark b) 0 n) (m .told p (omega arith))
-            | yes q ↦ rw (q, getD-set-same known t (mark b) 0 (omega (arith, m .sized))) (ap mark e)
-          ]

@@ -2,12 +2,11 @@
 use Prim.Native.Nat.{ℕ, _+_, _*_, _<_}
 use mathlib.Core.Path.{_≡_}
 use mathlib.Core.Logic.{_⊎_}
-use mathlib.Core.Bool.{Bool, true, false, cond}
+use mathlib.Core.Bool.{Bool, true, false}
 use mathlib.Core.List.{List}
-use lib.Dec.{eqb, ltb}
-use lib.ListN.{length, take, drop, getD}
+use lib.ListN.{take, drop, getD}
 use Rattle.meaning.specs.Bytes.{_∧ᵇ_, within, read, reads, typeRow}
-use Rattle.meaning.specs.Types.{Form, types, names, pairs, formNo, partsNo, result, parts, every, ground, lastForm, fieldsOk}
+use Rattle.meaning.specs.Types.{Form, types, names, pairs, formNo, partsNo, result, parts, every, ground, lastForm, fieldsOk, groundCall}
 
 -- row t of a type table, and the rows before it
 abbrev pub typeAt : List ℕ → ℕ → List ℕ
@@ -35,19 +34,13 @@ pub record PairWord (r : List ℕ) (k w : ℕ) : Type 0 where
   pub low : getD r (3 + 2 * k) 0 < 65536
   pub fits : w < 4294967296
 
--- a part is ground where its number is smaller and it is ground; the parts of row t; what is asked of a foreign function
-unfoldable pub partGround : (ℕ → Form) → ℕ → ℕ → Bool
-partGround form t p = ltb p t ∧ᵇ ground form p
-
-unfoldable pub partsGround : (ℕ → Form) → ℕ → List ℕ → Bool
-partsGround form t r = every (partGround form t) (types (parts r))
-
-unfoldable pub callGround : (ℕ → Form) → ℕ → List ℕ → Bool
-callGround form t r = cond (eqb (formNo r) 7) (partGround form t (result r) ∧ᵇ partsGround form t r) true
+-- groundCall's arguments
+unfoldable pub partsGround : (ℕ → Form) → List ℕ → Bool
+partsGround form r = every (ground form) (types (parts r))
 
 -- what is asked of row t besides that it is fresh
 unfoldable pub ownOk : ℕ → (ℕ → Form) → ℕ → List ℕ → Bool
-ownOk edition form t r = within 1 (lastForm edition) (formNo r) ∧ᵇ fieldsOk t r ∧ᵇ callGround form t r
+ownOk edition form t r = within 1 (lastForm edition) (formNo r) ∧ᵇ fieldsOk t r ∧ᵇ groundCall form r
 
 -- what a memo says of a type that is ground, and of one that is not
 abbrev pub mark : Bool → ℕ
@@ -62,8 +55,3 @@ Truthful known form = (t : ℕ) → (getD known t 0 ≡ 0) ⊎ (getD known t 0 �
 pub record Told (form : ℕ → Form) (known : List ℕ) (due b : Bool) : Type 0 where
   pub answer : b ≡ due
   pub memo : Truthful known form
-
--- a memo that says of each type below t what is true
-pub record Knows (known : List ℕ) (form : ℕ → Form) (t : ℕ) : Type 0 where
-  pub sized : length known ≡ 256
-  pub told : (p : ℕ) → p < t → getD known p 0 ≡ mark (ground form p)

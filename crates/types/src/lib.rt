@@ -4,9 +4,9 @@ ghost use mathlib.Core.Path.{_≡_};
 ghost use Prim.Native.Nat.{_+_, _*_, _≤_, _<_};
 ghost use lib.ListN.{length, drop, set};
 ghost use Rattle.meaning.specs.Bytes.{zeros};
-ghost use Rattle.meaning.specs.Types.{parts, every, below, member, sameNumbers, formOf, ground, lastForm, plainOk, listOk, tupleOk, namesOk, functionOk, fieldsOk, fresh, badType};
+ghost use Rattle.meaning.specs.Types.{parts, every, below, member, sameNumbers, formOf, ground, lastForm, plainOk, listOk, tupleOk, namesOk, functionOk, fieldsOk, fresh, groundCall, badType};
 ghost use Rattle.layout.specs.Rows.{found, typeTable};
-ghost use Rattle.types.specs.Table.{typeAt, rowsBefore, firstNames, firstTypes, partGround, partsGround, callGround, ownOk, HeadWord, PairWord, mark, Truthful, Told, Knows};
+ghost use Rattle.types.specs.Table.{typeAt, rowsBefore, firstNames, firstTypes, HeadWord, PairWord, partsGround, ownOk, mark, Truthful, Told};
 ghost use Rattle.types.specs.Chains.{hashAt, lastOf, Linked, Chained, Joined};
 
 // How many parts row t has: at most eight are there.
@@ -326,6 +326,10 @@ pub fn ground(types: &[u8], known: &mut [u8; 256], t: usize) -> bool
         if t <= p {
             return remember(known, t, false);
         }
+        if known[p] == 1 {
+            k += 1;
+            continue;
+        }
         if ground(types, known, p) {
             k += 1;
         } else {
@@ -343,29 +347,22 @@ pub fn ground_at(types: &[u8], known: &mut [u8; 256], t: usize) -> bool
     if layout::type_rows(types) <= t {
         return false;
     }
+    if known[t] == 1 {
+        return true;
+    }
     ground(types, known, t)
 }
 
-// Type p is ground, and its number is smaller than t: the memo knows all these.
-fn part_ground(types: &[u8], known: &[u8; 256], t: usize, p: usize) -> bool
-    requires { ⌜ (t ≤ 256) × Knows (now known) (formOf (typeTable (now types))) t ⌝ }
-    ensures { λ b. ⌜ b ≡ partGround (formOf (typeTable (now (types .entry)))) t p ⌝ }
-{
-    if t <= p {
-        return false;
-    }
-    known[p] == 1
-}
-
-// Each part of row t is ground, and its number is smaller.
-fn parts_ground(types: &[u8], known: &[u8; 256], t: usize) -> bool
-    requires { ⌜ (36 * t + 36 ≤ length (now types)) × (length (now types) ≤ 9216) × Knows (now known) (formOf (typeTable (now types))) t ⌝ }
-    ensures { λ b. ⌜ b ≡ partsGround (formOf (typeTable (now (types .entry)))) t (typeAt (now (types .entry)) t) ⌝ }
+// The arguments of row t are ground.
+fn parts_ground(types: &[u8], known: &mut [u8; 256], t: usize) -> bool
+    requires { ⌜ (36 * t + 36 ≤ length (now types)) × (length (now types) ≤ 9216) × Truthful (now known) (formOf (typeTable (now types))) ⌝ }
+    ensures { λ b. ⌜ Told (formOf (typeTable (now (types .entry)))) (now (known .exit)) (partsGround (formOf (typeTable (now (types .entry)))) (typeAt (now (types .entry)) t)) b ⌝ }
 {
     let n = part_count(types, t);
     let mut k = 0;
     while k < n {
-        if part_ground(types, known, t, layout::type_no(types, t, k) as usize) {
+        let p = layout::type_no(types, t, k) as usize;
+        if ground_at(types, known, p) {
             k += 1;
         } else {
             return false;
@@ -374,42 +371,25 @@ fn parts_ground(types: &[u8], known: &[u8; 256], t: usize) -> bool
     true
 }
 
-// Type t is ground.
-fn is_ground(types: &[u8], known: &[u8; 256], t: usize) -> bool
-    requires { ⌜ (36 * t + 36 ≤ length (now types)) × (length (now types) ≤ 9216) × Knows (now known) (formOf (typeTable (now types))) t ⌝ }
-    ensures { λ b. ⌜ b ≡ ground (formOf (typeTable (now (types .entry)))) t ⌝ }
-{
-    let form = layout::form_no(types, t);
-    if form < 4 {
-        return 0 < form;
-    }
-    if form == 4 {
-        return part_ground(types, known, t, layout::result_no(types, t) as usize);
-    }
-    if form == 5 {
-        return parts_ground(types, known, t);
-    }
-    false
-}
-
 // If row t is a foreign function, its arguments and its result are ground.
-fn ground_call(types: &[u8], known: &[u8; 256], t: usize) -> bool
-    requires { ⌜ (36 * t + 36 ≤ length (now types)) × (length (now types) ≤ 9216) × Knows (now known) (formOf (typeTable (now types))) t ⌝ }
-    ensures { λ b. ⌜ b ≡ callGround (formOf (typeTable (now (types .entry)))) t (typeAt (now (types .entry)) t) ⌝ }
+fn ground_call(types: &[u8], known: &mut [u8; 256], t: usize) -> bool
+    requires { ⌜ (36 * t + 36 ≤ length (now types)) × (length (now types) ≤ 9216) × Truthful (now known) (formOf (typeTable (now types))) ⌝ }
+    ensures { λ b. ⌜ Told (formOf (typeTable (now (types .entry)))) (now (known .exit)) (groundCall (formOf (typeTable (now (types .entry)))) (typeAt (now (types .entry)) t)) b ⌝ }
 {
     if layout::form_no(types, t) != 7 {
         return true;
     }
-    if part_ground(types, known, t, layout::result_no(types, t) as usize) {
+    let e = layout::result_no(types, t) as usize;
+    if ground_at(types, known, e) {
         return parts_ground(types, known, t);
     }
     false
 }
 
 // Row t is good, but for rows before it that it may equal.
-fn own_ok(types: &[u8], edition: u16, known: &[u8; 256], t: usize) -> bool
-    requires { ⌜ (36 * t + 36 ≤ length (now types)) × (length (now types) ≤ 9216) × Knows (now known) (formOf (typeTable (now types))) t ⌝ }
-    ensures { λ b. ⌜ b ≡ ownOk edition (formOf (typeTable (now (types .entry)))) t (typeAt (now (types .entry)) t) ⌝ }
+fn own_ok(types: &[u8], edition: u16, known: &mut [u8; 256], t: usize) -> bool
+    requires { ⌜ (36 * t + 36 ≤ length (now types)) × (length (now types) ≤ 9216) × Truthful (now known) (formOf (typeTable (now types))) ⌝ }
+    ensures { λ b. ⌜ Told (formOf (typeTable (now (types .entry)))) (now (known .exit)) (ownOk edition (formOf (typeTable (now (types .entry)))) t (typeAt (now (types .entry)) t)) b ⌝ }
 {
     let form = layout::form_no(types, t);
     if form == 0 {
@@ -424,7 +404,7 @@ fn own_ok(types: &[u8], edition: u16, known: &[u8; 256], t: usize) -> bool
     false
 }
 
-// Refusal 6: the first bad row. Whether a row's type is ground is told before the next row, so that the memo knows all smaller types.
+// Refusal 6: the first bad row. Whether a row's type is ground is told before the next row, so that no walk goes deep.
 pub fn bad_type(types: &[u8], edition: u16) -> Found
     requires { ⌜ length (now types) ≤ 9216 ⌝ }
     ensures { λ r. ⌜ found r ≡ badType edition (typeTable (now (types .entry))) ⌝ }
@@ -435,14 +415,13 @@ pub fn bad_type(types: &[u8], edition: u16) -> Found
     let mut links = [0u16; 256];
     let mut i = 0;
     while i < count {
-        if !own_ok(types, edition, &known, i) {
+        if !own_ok(types, edition, &mut known, i) {
             return Found::At(i as u32);
         }
         if !joins(types, &mut heads, &mut links, i) {
             return Found::At(i as u32);
         }
-        let told = is_ground(types, &known, i);
-        remember(&mut known, i, told);
+        ground(types, &mut known, i);
         i += 1;
     }
     Found::Nothing

@@ -5,9 +5,9 @@ use native.Mathlib.Omega.{arith}
 use lib.ListN.{length, drop}
 use Rattle.meaning.specs.Types.{types as typesOf, parts, formOf, every}
 use Rattle.layout.specs.Rows.{typeTable}
-use Rattle.types.specs.Table.{typeAt, partGround, Truthful}
+use Rattle.types.specs.Table.{typeAt, Truthful}
 use Rattle.types.proofs.Laws.{form-row, row-length, types-length, part-type, parts-few}
-use Rattle.types.proofs.GroundLaws.{part-low, part-high, ground-low, ground-list, ground-tuple, ground-other, every-no, every-on, every-end, said, tells}
+use Rattle.types.proofs.GroundLaws.{partGround, part-low, part-high, ground-low, ground-list, ground-tuple, ground-other, every-no, every-on, every-end, said, said-yes, tells}
 use borrow.Fn.Kinds.{In}
 use borrow.Fn.PlainCycle.{Measures, is, falls, and}
 use Rattle.types.proofs.ground.Reads as ground
@@ -123,23 +123,24 @@ pub +ground-spec : {M : Type 1} → statement M
     let n = types-length (parts r) in
     let m = c .before .before .before .before .before .before .part-count .ensures in
     tells (l .known) form (l .inv .2) (a .t) _ _ _ (c .remember5 .ensures) (ground-tuple form (a .t) r w _ (c .before .before .before .before .before .before .before .before .before .before .form-no .ensures) (c .before .before .before .before .before .before .before .if5 .left) ∙ sym (l .inv .1) ∙ every-no (partGround form (a .t)) (typesOf (parts r)) (l .k) _ (omega arith) (part-type r z (l .k) (omega arith) ∙ sym (c .before .before .before .type-no .ensures)) (part-high form (a .t) _ (c .before .before .if6 .taken))))
-    -- ground-ground-requires-2
-    (λ c κs. (omega (arith, c .before .before .before .before .before .before .before .before .before .before .before .before .before .pre .0), (omega (arith, c .before .before .before .before .before .before .before .before .before .before .before .before .before .pre .1 .0), omega (arith, c .before .before .before .before .before .before .before .before .before .before .before .before .before .pre .1 .1), c .before .before .before .before .loop .inv .2)))
+    (λ c. omega arith)
     (λ c. omega arith)
     (λ c. omega arith)
     -- ground-loop-again
     (λ c.
-    let a = c .before .before .before .before .before .before .before .before .before .before .before .before .before .before .before .args in
+    let a = c .before .before .before .before .before .before .before .before .before .before .before .before .before .before .args in
     let form = formOf (typeTable (a .types .now)) in
     let r = typeAt (a .types .now) (a .t) in
-    let w = form-row (a .types .now) (length (a .types .now) / 36) (a .t) (omega (arith, c .before .before .before .before .before .before .before .before .before .before .before .before .before .before .before .pre .1 .0)) in
-    let l = c .before .before .before .before .before .before .loop in
+    let l = c .before .before .before .before .before .loop in
     let z = row-length (drop (36 * a .t) (a .types .now)) in
     let n = types-length (parts r) in
-    let m = c .before .before .before .before .before .before .before .part-count .ensures in
-    (omega arith, sym (every-on (partGround form (a .t)) (typesOf (parts r)) (l .k) _ (omega arith) (part-type r z (l .k) (omega arith) ∙ sym (c .before .before .before .before .type-no .ensures)) (part-low form (a .t) _ (c .before .before .before .if6 .left) ∙ sym (c .before .ground2 .ensures .answer) ∙ c .if7 .taken)) ∙ l .inv .1, c .before .ground2 .ensures .memo))
-    (λ c κs. omega arith)
-    -- ground-returns-7
+    let m = c .before .before .before .before .before .before .part-count .ensures in
+    (omega arith, sym (every-on (partGround form (a .t)) (typesOf (parts r)) (l .k) _ (omega arith) (part-type r z (l .k) (omega arith) ∙ sym (c .before .before .before .type-no .ensures)) (part-low form (a .t) _ (c .before .before .if6 .left) ∙ said-yes (l .known) form (l .inv .2) _ (c .if7 .taken))) ∙ l .inv .1, l .inv .2))
+    -- ground-ground-requires-2
+    (λ c κs. (omega (arith, c .before .before .before .before .before .before .before .before .before .before .before .before .before .before .before .pre .0), (omega (arith, c .before .before .before .before .before .before .before .before .before .before .before .before .before .before .before .pre .1 .0), omega (arith, c .before .before .before .before .before .before .before .before .before .before .before .before .before .before .before .pre .1 .1), c .before .before .before .before .before .before .loop .inv .2)))
+    (λ c. omega arith)
+    (λ c. omega arith)
+    -- ground-loop-again-2
     (λ c.
     let a = c .before .before .before .before .before .before .before .before .before .before .before .before .before .before .before .before .before .args in
     let form = formOf (typeTable (a .types .now)) in
@@ -149,7 +150,19 @@ pub +ground-spec : {M : Type 1} → statement M
     let z = row-length (drop (36 * a .t) (a .types .now)) in
     let n = types-length (parts r) in
     let m = c .before .before .before .before .before .before .before .before .before .part-count .ensures in
-    tells _ form (c .before .before .before .ground2 .ensures .memo) (a .t) _ _ _ (c .remember6 .ensures) (ground-tuple form (a .t) r w _ (c .before .before .before .before .before .before .before .before .before .before .before .before .before .form-no .ensures) (c .before .before .before .before .before .before .before .before .before .before .if5 .left) ∙ sym (l .inv .1) ∙ every-no (partGround form (a .t)) (typesOf (parts r)) (l .k) _ (omega arith) (part-type r z (l .k) (omega arith) ∙ sym (c .before .before .before .before .before .before .type-no .ensures)) (part-low form (a .t) _ (c .before .before .before .before .before .if6 .left) ∙ sym (c .before .before .before .ground2 .ensures .answer) ∙ c .before .before .if7 .left)))
+    (omega arith, sym (every-on (partGround form (a .t)) (typesOf (parts r)) (l .k) _ (omega arith) (part-type r z (l .k) (omega arith) ∙ sym (c .before .before .before .before .before .before .type-no .ensures)) (part-low form (a .t) _ (c .before .before .before .before .before .if6 .left) ∙ sym (c .before .ground2 .ensures .answer) ∙ c .if8 .taken)) ∙ l .inv .1, c .before .ground2 .ensures .memo))
+    (λ c κs. omega arith)
+    -- ground-returns-7
+    (λ c.
+    let a = c .before .before .before .before .before .before .before .before .before .before .before .before .before .before .before .before .before .before .before .args in
+    let form = formOf (typeTable (a .types .now)) in
+    let r = typeAt (a .types .now) (a .t) in
+    let w = form-row (a .types .now) (length (a .types .now) / 36) (a .t) (omega (arith, c .before .before .before .before .before .before .before .before .before .before .before .before .before .before .before .before .before .before .before .pre .1 .0)) in
+    let l = c .before .before .before .before .before .before .before .before .before .before .loop in
+    let z = row-length (drop (36 * a .t) (a .types .now)) in
+    let n = types-length (parts r) in
+    let m = c .before .before .before .before .before .before .before .before .before .before .before .part-count .ensures in
+    tells _ form (c .before .before .before .ground2 .ensures .memo) (a .t) _ _ _ (c .remember6 .ensures) (ground-tuple form (a .t) r w _ (c .before .before .before .before .before .before .before .before .before .before .before .before .before .before .before .form-no .ensures) (c .before .before .before .before .before .before .before .before .before .before .before .before .if5 .left) ∙ sym (l .inv .1) ∙ every-no (partGround form (a .t)) (typesOf (parts r)) (l .k) _ (omega arith) (part-type r z (l .k) (omega arith) ∙ sym (c .before .before .before .before .before .before .before .before .type-no .ensures)) (part-low form (a .t) _ (c .before .before .before .before .before .before .before .if6 .left) ∙ sym (c .before .before .before .ground2 .ensures .answer) ∙ c .before .before .if8 .left)))
     (λ c κs. omega arith)
     -- ground-returns-8
     (λ c.

@@ -17,16 +17,24 @@ ground-call-spec =
     -- returns
     (λ c.
     let a = c .before .before .before .args in
-    sym (call-other (formOf (typeTable (a .types .now))) (a .t) (typeAt (a .types .now) (a .t)) _ (c .before .form-no .ensures) (c .if1 .taken)))
+    let form = formOf (typeTable (a .types .now)) in
+    let r = typeAt (a .types .now) (a .t) in
+    record { answer = sym (call-other form r _ (c .before .form-no .ensures) (c .if1 .taken)); memo = c .before .before .before .pre .2 })
     (λ c κs. search needs)
     (λ c. search needs)
-    (λ c κs. (omega arith, c .before .before .before .before .pre .2))
-    (λ c κs. search needs)
+    -- ground-at-requires
+    (λ c κs. (omega arith, c .before .before .before .before .before .pre .2))
+    -- parts-ground-requires
+    (λ c κs. (omega arith, omega arith, c .before .before .ground-at .ensures .memo))
     -- returns-2
     (λ c.
-    let a = c .before .before .before .before .before .before .before .args in
-    c .parts-ground .ensures ∙ sym (call-parts (formOf (typeTable (a .types .now))) (a .t) (typeAt (a .types .now) (a .t)) _ (c .before .before .before .before .before .form-no .ensures) (c .before .before .before .before .if1 .left) _ (c .before .before .before .result-no .ensures) (sym (c .before .before .part-ground .ensures) ∙ c .before .if2 .taken)))
+    let a = c .before .before .before .before .before .before .before .before .before .args in
+    let form = formOf (typeTable (a .types .now)) in
+    let r = typeAt (a .types .now) (a .t) in
+    record { answer = c .parts-ground .ensures .answer ∙ sym (call-parts form r _ (c .before .before .before .before .before .before .before .form-no .ensures) (c .before .before .before .before .before .before .if1 .left) _ (c .before .before .before .before .before .result-no .ensures) (sym (c .before .before .before .ground-at .ensures .answer) ∙ c .before .before .if2 .taken)); memo = c .parts-ground .ensures .memo })
     -- returns-3
     (λ c.
-    let a = c .before .before .before .before .before .before .args in
-    sym (call-result (formOf (typeTable (a .types .now))) (a .t) (typeAt (a .types .now) (a .t)) _ (c .before .before .before .before .form-no .ensures) (c .before .before .before .if1 .left) _ (c .before .before .result-no .ensures) (sym (c .before .part-ground .ensures) ∙ c .if2 .left))))
+    let a = c .before .before .before .before .before .before .before .args in
+    let form = formOf (typeTable (a .types .now)) in
+    let r = typeAt (a .types .now) (a .t) in
+    record { answer = sym (call-result form r _ (c .before .before .before .before .before .form-no .ensures) (c .before .before .before .before .if1 .left) _ (c .before .before .before .result-no .ensures) (sym (c .before .ground-at .ensures .answer) ∙ c .if2 .left)); memo = c .before .ground-at .ensures .memo }))
