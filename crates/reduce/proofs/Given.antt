@@ -30,7 +30,7 @@ let-goes : (form : ℕ → Form) (x : ℕ) (a b : Tree) → quiet (letStep form 
 unfolding letStep quiet
 let-goes form x a b = refl
 
-call-goes : {n : ℕ} (form : ℕ → Form) (u : ℕ) (c : Tree) (args : Forest n) → is 6 c ≡ true → quiet (applyStep form 0 u c args) ≡ some (put form (assign (params (form (tyOf c))) args) (kid 1 c))
+pub call-goes : {n : ℕ} (form : ℕ → Form) (u : ℕ) (c : Tree) (args : Forest n) → is 6 c ≡ true → quiet (applyStep form 0 u c args) ≡ some (put form (assign (params (form (tyOf c))) args) (kid 1 c))
 unfolding applyStep quiet
 call-goes form u c args e = rw e refl
 

@@ -26,7 +26,7 @@ module _ (c a b : Tree) where
   unfolding ifStep quiet
   if-then e = rw e refl
 
-  if-else : is 3 c ≡ false → is 4 c ≡ true → quiet (ifStep c a b) ≡ some b
+  pub if-else : is 3 c ≡ false → is 4 c ≡ true → quiet (ifStep c a b) ≡ some b
   unfolding ifStep quiet
   if-else e g = rw (e, g) refl
 
@@ -53,7 +53,7 @@ quiet-become none = refl
 quiet-become (some t) = refl
 
 module _ (i : ℕ) (c : Tree) where
-  project-tuple : is 16 c ≡ true → quiet (projectStep i c) ≡ child i c
+  pub project-tuple : is 16 c ≡ true → quiet (projectStep i c) ≡ child i c
   unfolding projectStep
   project-tuple e = rw e (quiet-become (child i c))
 

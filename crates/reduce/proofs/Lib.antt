@@ -3,6 +3,7 @@ pub mod Roots
 pub mod Kept
 pub mod Bound
 pub mod Given
+pub mod Standing
 pub mod Zipped
 pub mod Parted
 pub mod Filled

@@ -2,3 +2,4 @@ pub mod Rule
 pub mod Plan
 pub mod Given
 pub mod Halves
+pub mod Behind

@@ -27,7 +27,7 @@ pub fn kind_of(rows: &[u8], i: usize) -> u8
 
 // The row behind n trees from row `at` on.
 pub fn past_trees(rows: &[u8], at: usize, n: usize) -> usize
-    requires { ⌜ (length (now rows) ≤ 16384) × (at + sizes (grove (map rowOf (rowTable (now rows))) at n) ≤ length (rowTable (now rows))) ⌝ }
+    requires { ⌜ (length (now rows) ≤ 32768) × (at + sizes (grove (map rowOf (rowTable (now rows))) at n) ≤ length (rowTable (now rows))) ⌝ }
     ensures { λ r. ⌜ r ≡ at + sizes (grove (map rowOf (rowTable (now (rows .entry)))) at n) ⌝ }
 {
     let mut e = at;

@@ -80,7 +80,7 @@ past-trees-requires c κs =
     let t : kindNo (rowNo T 1) ≡ 16 = k ∙ c .before .before .if1 .left in
     let z : nNo (rowNo T 0) ≡ 0 → ⊥ = λ q. c .before .if2 .left (sym i ∙ q) in
     let h : nNo (rowNo T 0) ≤ nNo (rowNo T 1) = omega (arith, i, n, c .if3 .left) in
-    (R .few, subst (λ (x : ℕ). 2 + sizes (grove L 2 (x - 1)) ≤ length T) i (before-in T (R .exact) (R .one) (s .pre .1) t z h))
+    (omega (arith, R .few), subst (λ (x : ℕ). 2 + sizes (grove L 2 (x - 1)) ≤ length T) i (before-in T (R .exact) (R .one) (s .pre .1) t z h))
 
 end-of-requires : tie.Need-end-of-requires
 end-of-requires c κs =
