@@ -42,6 +42,7 @@ hide-none ps σ e x = rw (e x) (veiled (find ps x))
 module _ (form : ℕ → Form) where
   mutual
     unfolding put swap
+
     put-none : (t : Tree) (σ : Sub) → ((x : ℕ) → σ x ≡ none) → put form σ t ≡ t
     put-none (node h ty f) σ e = rw (hit-none σ e h) (ap (node h ty) (puts-none f (scope form h ty (tys f)) σ e))
 
@@ -199,10 +200,10 @@ module _ (l : List (List ℕ)) (inside : size (treeOf (map rowOf l)) ≤ length 
             made = treeAt L (2 + sizes (grove L 2 j));
             rule = ap (ruleOf form) t ∙ r;
             rows = sym
-            (ap (λ (x : Tree). drop n (flat x)) t
-            ∙ ap (λ (x : ℕ). drop x (flat (node (project (suc j)) (U 0) (more (node (tuple (suc j)) (U 1) F) end)))) m
-            ∙ below-first (project (suc j)) (U 0) (more (node (tuple (suc j)) (U 1) F) end) (1 + sizes (grove L 2 j))
-            ∙ ap (drop (1 + sizes (grove L 2 j))) (only-tree (node (tuple (suc j)) (U 1) F))
-            ∙ below-first (tuple (suc j)) (U 1) F (sizes (grove L 2 j))
-            ∙ last-stands L j 2);
+                (ap (λ (x : Tree). drop n (flat x)) t
+                ∙ ap (λ (x : ℕ). drop x (flat (node (project (suc j)) (U 0) (more (node (tuple (suc j)) (U 1) F) end)))) m
+                ∙ below-first (project (suc j)) (U 0) (more (node (tuple (suc j)) (U 1) F) end) (1 + sizes (grove L 2 j))
+                ∙ ap (drop (1 + sizes (grove L 2 j))) (only-tree (node (tuple (suc j)) (U 1) F))
+                ∙ below-first (tuple (suc j)) (U 1) F (sizes (grove L 2 j))
+                ∙ last-stands L j 2);
           }

@@ -218,14 +218,15 @@ module _ (form : ℕ → Form) (left right frames : List ℕ) (s : Stand) (old n
       ap length (last-made-rows form (T .number) left right right frames s s (T .whole) (T .halted) last (g .made) (g .goes) old (g .rows) x e room)
       ∙ length-map (flat (g .made)) raw ∙ length-flat (g .made) ∙ g .made-rows
 
-pub end-makes : (form : ℕ → Form) (left right right′ to x : List ℕ) (s s′ : Stand) (old new : ℕ) → s .here ≡ false → 8 * s .l ≤ length left → s .r ≤ rowCount right → new ≤ s .r → s′ .l ≡ s .l - old → s′ .d ≡ s .d - 1 → s′ .r ≡ s .r - new
+pub end-makes : (form : ℕ → Form) (left right right′ to x : List ℕ) (s s′ : Stand) (old new : ℕ) → s .here ≡ false → 0 < new → 8 * s .l ≤ length left → s .r ≤ rowCount right → new ≤ s .r → s′ .l ≡ s .l - old → s′ .d ≡ s .d - 1 → s′ .r ≡ s .r - new
     → x ≡ take (8 * old) (drop (8 * (s .l - old)) left) → rowTable to ≡ rowsIf (ruleOf form (treeOf (termRows x))) → length to ≡ 8 * new
     → right′ ≡ take (8 * (s .r - new)) right ++ (to ++ drop (8 * (s .r - new) + 8 * new) right) → length right′ ≡ length right
     → Makes form left left right right′ s s′ old new
-end-makes form left right right′ to x s s′ old new last room ends fits el ed er ex rows lt e n =
+end-makes form left right right′ to x s s′ old new last writes room ends fits el ed er ex rows lt e n =
     record {
       long = n;
-      changed = λ k frames t h u g eo.
+      changed = λ k frames t h u g turns.
+          let eo = turns .anew writes in
           let made = rows ∙ last-made-rows form k left right right′ frames s s′ t h last u g old eo x ex room in
           let count : size u ≡ new = sym (length-flat u) ∙ sym (length-map (flat u) raw) ∙ ap length (sym made) ∙ row-table-length to ∙ omega (arith, lt) in
           last-made form k left right right′ frames s s′ t h last u g old eo x ex room to new count ends fits el ed er made lt e;

@@ -86,7 +86,7 @@ module _ (form : ℕ → Form) (k : ℕ) (left right frames : List ℕ) (s : Sta
   unfolding atRoot
   inner q = inner-told (s .here) frames (s .d) (h .all .framesAround) (h .all .trees) (h .tree) (h .outer) (h .rest) (h .site) (h .all .search .kept .held) q
 
-  passing : atRoot s ≡ false → Tells Stays form k (h .tree) → Passing form k left right frames s t
+  passing : atRoot s ≡ false → Tells Stays (s .here) form k (h .tree) → Passing form k left right frames s t
   unfolding Tells
   passing q x = let y = inner q in record { halted = h; stays = x; frame = y .frame; others = y .others; inside = y .inside }
 
@@ -161,7 +161,7 @@ module _ (m : Limits) (kept kept′ work frames frames′ : List ℕ) (s e : Sta
     stays-inside q r k t w =
         let form = formOf (typesIn kept) in
         let h = c .halted k t w in
-        passing form k (space m kept′) work frames′ e t h r (subst (λ (z : Tried). Tells z form k (h .tree)) q (tries k t h))
+        passing form k (space m kept′) work frames′ e t h r (subst (λ (z : Tried). Tells z (e .here) form k (h .tree)) q (tries k t h))
 
     pub stayed-on : x ≡ Stays → atRoot e ≡ false → (kept3 frames3 : List ℕ) (s3 : Stand) → InRecord m kept′ kept3 → length frames3 ≡ length frames′ → GoesOn (space m kept′) (space m kept3) work frames′ frames3 e s3
         → Went m kept kept3 work frames frames3 s s3

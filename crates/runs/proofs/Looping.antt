@@ -27,10 +27,10 @@ use Rattle.search.specs.Kept.{rowCount}
 use Rattle.search.specs.Search.{Room}
 use Rattle.search.specs.declared.Stand.{Stand}
 use Rattle.keep.specs.Keep.{Roomy}
-use Rattle.runs.specs.Sites.{Site, Whole, Halted, own, InRecord, Tells, Calling}
+use Rattle.runs.specs.Sites.{Site, Whole, Halted, own, InRecord, Turns, Tells, Calling}
 use Rattle.runs.specs.Going.{space, OnTheWay, Begins, PutBack, Fronts}
 use Rattle.runs.specs.Loops.{Ready, SentOff}
-use Rattle.runs.specs.Tries.{Trying, Tries, Going, Steps, Found}
+use Rattle.runs.specs.Tries.{Trying, Tries, Turning, Steps, Found}
 use Rattle.runs.specs.declared.Next.{Next}
 use Rattle.runs.specs.declared.Tried.{Tried}
 use Rattle.runs.specs.declared.Tried.the-variants.{Stays, Goes, Sends}
@@ -187,7 +187,7 @@ module _ (m : Limits) (kept₀ work₀ : List ℕ) (budget : ℕ) where
           (root k t h, told-by (n .tried) Stays form₀ (space m kept′) work frames′ (n .s) e (stop-tells kept′ frames′ n c) k t h)
 
       pub stop-goes : (kept′ frames′ : List ℕ) (n : Next) (old new : ℕ) → InRecord m kept kept′ × Found (formOf (typesIn kept)) (space m kept) (space m kept′) work frames frames′ s n → n .tried ≡ Goes old new
-          → (k : ℕ) (t : Tree) (h : Halted form₀ k (space m kept′) work frames′ (n .s) t) → (size (h .tree) ≡ old) × ((u : Tree) × (own form₀ k (h .tree) ≡ go none u) × (size u ≡ new))
+          → (k : ℕ) (t : Tree) (h : Halted form₀ k (space m kept′) work frames′ (n .s) t) → (u : Tree) × (own form₀ k (h .tree) ≡ go none u) × Turns (n .s .here) (h .tree) u old new
       unfolding Tells
       stop-goes kept′ frames′ n old new c e k t h = told-by (n .tried) (Goes old new) form₀ (space m kept′) work frames′ (n .s) e (stop-tells kept′ frames′ n c) k t h
 
@@ -236,24 +236,24 @@ module _ (m : Limits) (kept₀ work₀ : List ℕ) (budget : ℕ) where
           site-size form₀ (start .next) (s .here) (h .all .framesAround) (h .all .trees) (h .tree) u (h .outer) (h .rest) (h .site) (h .all .search .passed) ∙ ap (λ (t : Tree). size t + size u) (h .all .whole)
 
       -- a rule that goes, as the code carries it out
-      pub stopped-going : (old new : ℕ) → (size (x .halted .tree) ≡ old) × ((u : Tree) × (own form₀ (start .next) (x .halted .tree) ≡ go none u) × (size u ≡ new)) → Going (formOf (typesIn kept)) (space m kept) work frames s old new
+      pub stopped-going : (old new : ℕ) → (u : Tree) × (own form₀ (start .next) (x .halted .tree) ≡ go none u) × Turns (s .here) (x .halted .tree) u old new → Turning (formOf (typesIn kept)) (space m kept) work frames s old new
       unfolding stepped
-      stopped-going old new (a, (u, g, b)) =
+      stopped-going old new (u, g, b) =
           let f = same-types kept (x .front) (x .long) .1 in
-          let y : Going form₀ (space m kept) work frames s old new = record { trying = record { number = start .next; whole = x .tree; halted = x .halted; count = length (start .types); in-range = x .good .legalRows }; made = u; goes = g; rows = a; made-rows = b } in
+          let y : Turning form₀ (space m kept) work frames s old new = record { trying = record { number = start .next; whole = x .tree; halted = x .halted; count = length (start .types); in-range = x .good .legalRows }; made = u; goes = g; turns = b } in
           rw f y
 
       -- A STEP ON
-      pub steps-on : (kept′ work′ : List ℕ) (e : Stand) (old new : ℕ) (u : Tree) → size (x .halted .tree) ≡ old → own form₀ (start .next) (x .halted .tree) ≡ go none u → size u ≡ new
+      pub steps-on : (kept′ work′ : List ℕ) (e : Stand) (old new : ℕ) (u : Tree) → own form₀ (start .next) (x .halted .tree) ≡ go none u → Turns (s .here) (x .halted .tree) u old new
           → s .l + (rowCount work - s .r) + new ≤ m .rows + old → (made ≡ budget → ⊥)
           → InRecord m kept kept′ × Steps (formOf (typesIn kept)) (space m kept) (space m kept′) work work′ frames s e old new → Under m kept₀ budget kept′ work′ frames e (made + 1)
-      steps-on kept′ work′ e old new u a g b fits more (r, c) =
+      steps-on kept′ work′ e old new u g b fits more (r, c) =
           let f = same-types kept (x .front) (x .long) .1 in
           let d : Steps form₀ (space m kept) (space m kept′) work work′ frames s e old new = rw f at c in
-          let n : size (top (around (x .halted .outer) (u ∷ x .halted .rest))) ≤ m .rows = omega (arith, whole-grows u, stopped-size, a, b) in
+          let n : size (top (around (x .halted .outer) (u ∷ x .halted .rest))) ≤ m .rows = omega (arith, whole-grows u, stopped-size, b .sizes) in
           record {
             tree = top (around (x .halted .outer) (u ∷ x .halted .rest));
-            whole = d .reached (start .next) (x .tree) (x .halted) u g a;
+            whole = d .reached (start .next) (x .tree) (x .halted) u g b;
             way = step-on m budget made start (x .tree) (x .way) _ (whole-goes none u g) n more;
             good = step-good m budget made start (x .tree) (x .way) _ (whole-goes none u g) (z .board) n (x .good);
             front = r .front ∙ x .front;

@@ -17,7 +17,7 @@ use Rattle.search.specs.declared.Stand.{Stand}
 use Rattle.search.proofs.Entries.{rows-long, held-few}
 use Rattle.search.proofs.Ends.{whole-rows}
 use Rattle.runs.specs.Sites.{Site, at-row, at-end, Whole}
-use Rattle.runs.specs.Tries.{Trying, Going, Makes, Steps}
+use Rattle.runs.specs.Tries.{Trying, Turning, Makes, Steps}
 use Rattle.runs.specs.Going.{space}
 use Rattle.runs.proofs.PutBack.{record-long}
 use Rattle.runs.proofs.Sites.{end-rows}
@@ -41,26 +41,26 @@ site-long form k left right frames s b Fs ts old outer rest (at-end {F = F} e) x
     omega (arith, r .0, coming-long right (s .r) rest (r .2))
 
 -- BEHIND THE RULE
-module _ (form : ℕ → Form) (left left′ right right′ frames : List ℕ) (s s′ : Stand) (old new : ℕ) (x : Makes form left left′ right right′ s s′ old new) (g : Going form left right frames s old new) where
+module _ (form : ℕ → Form) (left left′ right right′ frames : List ℕ) (s s′ : Stand) (old new : ℕ) (x : Makes form left left′ right right′ s s′ old new) (g : Turning form left right frames s old new) where
   abbrev T : Trying form left right frames s
   T = g .trying
 
   behind : Changed form (T .number) left′ right′ frames s′ (T .halted .outer) (g .made) (T .halted .rest)
-  behind = x .changed (T .number) frames (T .whole) (T .halted) (g .made) (g .goes) (g .rows)
+  behind = x .changed (T .number) frames (T .whole) (T .halted) (g .made) (g .goes) (g .turns)
 
   passed-long : s′ .l ≡ length (passedRows (T .halted .outer))
   passed-long = rows-long left′ frames (s′ .l) (s′ .d) (T .halted .outer) (behind .kept)
 
-  left-long : rowCount right′ - s′ .r ≡ new + length (spelled (T .halted .rest))
-  left-long = omega (arith, coming-long right′ (s′ .r) (g .made ∷ T .halted .rest) (behind .coming), first-long (g .made) (T .halted .rest), g .made-rows)
+  left-long : rowCount right′ - s′ .r ≡ size (g .made) + length (spelled (T .halted .rest))
+  left-long = omega (arith, coming-long right′ (s′ .r) (g .made ∷ T .halted .rest) (behind .coming), first-long (g .made) (T .halted .rest))
 
-  before-long : s .l + (rowCount right - s .r) ≡ length (passedRows (T .halted .outer)) + (old + length (spelled (T .halted .rest)))
+  before-long : s .l + (rowCount right - s .r) ≡ length (passedRows (T .halted .outer)) + (size (T .halted .tree) + length (spelled (T .halted .rest)))
   before-long =
       let a = T .halted .all in
-      omega (arith, site-long form (T .number) left right frames s (s .here) (a .framesAround) (a .trees) (T .halted .tree) (T .halted .outer) (T .halted .rest) (T .halted .site) (a .search), g .rows)
+      omega (arith, site-long form (T .number) left right frames s (s .here) (a .framesAround) (a .trees) (T .halted .tree) (T .halted .outer) (T .halted .rest) (T .halted .site) (a .search))
 
   made-total : s′ .l + (rowCount right′ - s′ .r) + old ≡ s .l + (rowCount right - s .r) + new
-  made-total = omega (arith, passed-long, left-long, before-long)
+  made-total = omega (arith, passed-long, left-long, before-long, g .turns .sizes)
 
   made-size : size (top (around (T .halted .outer) (g .made ∷ T .halted .rest))) ≡ s′ .l + (rowCount right′ - s′ .r)
   made-size =
@@ -74,8 +74,8 @@ module _ (form : ℕ → Form) (left left′ right right′ frames : List ℕ) (
     same : rowCount right′ ≡ rowCount right
     same = ap (λ (i : ℕ). i / 8) (x .long)
 
-    some : 0 < new
-    some = omega (arith, g .made-rows, size-some (g .made))
+    some : 0 < size (g .made)
+    some = omega (arith, size-some (g .made))
 
     pub made-room : Room left′ right′ frames s′
     made-room = record { ends = omega (arith, left-long, some); few = omega (arith, same, room .few); rows = omega (arith, made-total, fits, few); left-long = omega (arith, made-total, fits, long); deep = omega (arith, made-total, fits, deep) }

@@ -2,10 +2,10 @@
 use Prim.Native.Nat.{ℕ, _+_, _*_, _-_, _/_, _<_, _≤_}
 use mathlib.Core.Path.{_≡_, refl, ap, sym, _∙_, subst}
 use mathlib.Core.Bool.{Bool, true, false}
-use mathlib.Core.List.{List, _∷_, _++_, map}
+use mathlib.Core.List.{List, _∷_, _++_, map, append-assoc}
 use mathlib.Core.Option.{Option, none, some}
 use native.Mathlib.Omega.{arith}
-use lib.ListN.{length, take, drop, length-take, length-drop, length-map}
+use lib.ListN.{length, take, drop, length-take, length-drop, length-map, take-append-drop}
 use Rattle.layout.specs.Rows.{rowTable, typeTable, termRows}
 use Rattle.layout.proofs.Tables.{row-table-cut, row-table-length, type-table-cut}
 use Rattle.meaning.specs.Bytes.{Limits, width, reads, termRow, callsAt, rowsAt}
@@ -14,24 +14,25 @@ use Rattle.meaning.specs.Terms.{Tree, node, Row, raw, rowOf, flat, size, top, t
 use Rattle.meaning.specs.Steps.{Out, stay, go, become}
 use Rattle.meaning.specs.Records.{typesIn, typeCount}
 use Rattle.meaning.proofs.Trees.EachRow.{Fact, Every, AllRows, rows-left, rows-right, every-rows, rows-every}
-use Rattle.meaning.proofs.Trees.Parse.{length-flat}
+use Rattle.meaning.proofs.Trees.Parse.{length-flat, tree-at-zero}
 use Rattle.meaning.proofs.Bytes.RowTables.{legal, rows-raw}
 use Rattle.search.specs.Frames.{spelled, Frame, around, rowOfFrame, passedRows}
 use Rattle.search.specs.Kept.{table, toCome, rowCount, treeHere}
-use Rattle.search.proofs.Turns.{tree-here}
+use Rattle.search.proofs.Turns.{tree-here, rest-rows}
 use Rattle.search.specs.Search.{Searching}
 use Rattle.search.specs.declared.Stand.{Stand}
 use Rattle.terms.proofs.Scan.{size-some}
-use lib.Seq.{take-at}
+use lib.Seq.{take-at, length-take-le}
 use Rattle.search.specs.Search.{Changed}
-use Rattle.search.proofs.Tables.{map-append, rows-before, pasted-length, pasted-before, pasted-there, table-same}
+use Rattle.search.proofs.Tables.{map-append, rows-before, pasted-length, pasted-before, pasted-there, table-same, lent-length, lent-tree}
 use Rattle.search.proofs.Changes.{frame-rows}
 use Rattle.search.proofs.Ends.{all-rows}
 use Rattle.reduce.specs.Rule.{Redex, told, sizeIf, rowsIf, ruleOf}
 use Rattle.reduce.specs.declared.Outcome.the-variants.{Stays, Goes}
+use Rattle.reduce.specs.Behind.{Begins, StandsBehind}
 use Rattle.reduce.proofs.Quiet.{rule-is, tree-is, redex-of}
-use Rattle.runs.specs.Sites.{Site, at-row, at-end, own, Halted}
-use Rattle.runs.specs.Tries.{Trying, Going, Makes}
+use Rattle.runs.specs.Sites.{Site, at-row, at-end, own, Turns, Halted}
+use Rattle.runs.specs.Tries.{Trying, Turning, Going, Makes}
 use Rattle.runs.proofs.Sites.{isCall, here-rows, here-no-call, here-behind}
 
 -- the types as they are lent
@@ -61,6 +62,22 @@ told-goes form k t n e q = some-made (ruleOf form t) refl q
     some-made : (o : Option Tree) → ruleOf form t ≡ o → some n ≡ sizeIf o → (u : Tree) × (own form k t ≡ go none u) × (size u ≡ n)
     some-made none p q = let z : _≡_ {A = ℕ} 1 0 = ap (λ (o : Option ℕ). elim o [ none ↦ 0 | some i ↦ 1 ]) q in absurd (omega arith)
     some-made (some u) p q = (u, own-rule form k t e ∙ ap become p, sym (ap (λ (o : Option ℕ). elim o [ none ↦ n | some i ↦ i ]) q))
+
+-- all rows of a tree give way to all of the other
+pub turns-anew : (here : Bool) (t u : Tree) (old new : ℕ) → size t ≡ old → size u ≡ new → Turns here t u old new
+turns-anew here t u old new a b =
+    record { within = omega (arith, a); sizes = omega (arith, a, b); anew = λ h. a; stands = λ z. absurd (omega (arith, b, z, size-some u)) }
+
+-- the end of a tree stands already
+pub told-stands : (form : ℕ → Form) (k : ℕ) (here : Bool) (t : Tree) (n : ℕ) → isCall t ≡ false → here ≡ true → StandsBehind form t n → (u : Tree) × (own form k t ≡ go none u) × Turns here t u n 0
+unfolding become
+told-stands form k here t n e b x =
+    let u = x .made in
+    let z : size u ≡ size t - n = sym (length-flat u) ∙ ap length (x .rows) ∙ length-drop n (flat t) ∙ ap (λ (i : ℕ). i - n) (length-flat t) in (
+      u,
+      own-rule form k t e ∙ ap become (x .rule),
+      record { within = omega (arith, z, size-some u); sizes = omega (arith, z, size-some u); anew = λ h. absurd (omega (arith, h)); stands = λ q. (b, x .rows) },
+    )
 
 -- ITS ROWS are in range
 module _ (form : ℕ → Form) (k : ℕ) (left right frames : List ℕ) (s : Stand) (P : Fact) where
@@ -92,11 +109,38 @@ module _ (form : ℕ → Form) (k : ℕ) (left right frames : List ℕ) (s : Sta
   pub here-fits : size (h .tree) ≤ rowCount right - s .r
   here-fits = here-all .2
 
+  here-come : toCome right (s .r) ≡ map raw (flat (h .tree) ++ spelled (h .rest))
+  unfolding spelled
+  here-come = come (h .all .framesAround) (h .all .trees) (h .tree) (h .outer) (h .rest) here-site (h .all .search)
+    where
+      come : (Fs : List Frame) (ts : List Tree) (old : Tree) (outer : List Frame) (rest : List Tree) → Site true Fs ts old outer rest → Searching form k left right frames s Fs ts → toCome right (s .r) ≡ map raw (flat old ++ spelled rest)
+      come Fs ts old outer rest (at-row {h = g} {u = u} {f = f} o w) x = x .coming
+
+  -- a tree that is the end of it comes behind so many rows
+  pub behind-come : (u : Tree) (n : ℕ) → n ≤ size (h .tree) → flat u ≡ drop n (flat (h .tree)) → toCome right (s .r + n) ≡ map raw (flat u ++ spelled (h .rest))
+  behind-come u n fits e =
+      let A = take n (flat (h .tree)) in
+      let parts : flat (h .tree) ++ spelled (h .rest) ≡ A ++ (flat u ++ spelled (h .rest)) = ap (λ (l : List Row). l ++ spelled (h .rest)) (sym (take-append-drop n (flat (h .tree))) ∙ ap (λ (l : List Row). A ++ l) (sym e)) ∙ append-assoc A (flat u) (spelled (h .rest)) in
+      rest-rows right (s .r) n A (flat u ++ spelled (h .rest)) (length-take-le n (flat (h .tree)) (omega (arith, fits, length-flat (h .tree)))) (here-come ∙ ap (map raw) parts)
+
   pub here-tree : treeHere right (s .r) ≡ h .tree
   here-tree = first-of (h .all .framesAround) (h .all .trees) (h .tree) (h .outer) (h .rest) here-site (h .all .search)
     where
       first-of : (Fs : List Frame) (ts : List Tree) (old : Tree) (outer : List Frame) (rest : List Tree) → Site true Fs ts old outer rest → Searching form k left right frames s Fs ts → treeHere right (s .r) ≡ old
       first-of Fs ts old outer rest (at-row {h = g} {u = u} {f = f} o w) x = tree-here right (s .r) (node g u f) rest (x .coming)
+
+  -- the rows to come begin with it
+  module _ (x : List ℕ) (fits : 8 * s .r ≤ length right) (ex : x ≡ take (length right - 8 * s .r) (drop (8 * s .r) right)) where
+    here-first : treeOf (termRows x) ≡ h .tree
+    here-first = sym (tree-at-zero (termRows x)) ∙ lent-tree right x (s .r) fits ex ∙ here-tree
+
+    pub here-begins : rowCount right - s .r ≤ 2048 → Begins x
+    here-begins few =
+        let n = lent-length right x (s .r) fits ex in
+        record { few = omega (arith, n, few); inside = omega (arith, ap size here-first, here-fits, row-table-length x, n) }
+
+    pub here-stands : (n : ℕ) → StandsBehind form (treeOf (termRows x)) n → (u : Tree) × (own form k (h .tree) ≡ go none u) × Turns (s .here) (h .tree) u n 0
+    here-stands n y = told-stands form k (s .here) (h .tree) n (here-no-call _ _ _ _ _ here-site) here (subst (λ (t : Tree). StandsBehind form t n) here-first y)
 
   module _ (n : ℕ) (x : List ℕ) (en : n ≡ size (h .tree)) (ex : x ≡ take (8 * n) (drop (8 * s .r) right)) (ends : s .r ≤ rowCount right) where
     pub here-table : rowTable x ≡ map raw (flat (h .tree))
@@ -115,6 +159,9 @@ module _ (form : ℕ → Form) (k : ℕ) (left right frames : List ℕ) (s : Sta
 
     pub here-goes : (m : ℕ) → told (Goes m) ≡ sizeIf (ruleOf form (treeOf (termRows x))) → (u : Tree) × (own form k (h .tree) ≡ go none u) × (size u ≡ m)
     here-goes m q = told-goes form k (h .tree) m (here-no-call _ _ _ _ _ here-site) (q ∙ ap (λ (y : Tree). sizeIf (ruleOf form y)) (tree-is x (h .tree) here-table))
+
+    pub here-turns : (m : ℕ) → told (Goes m) ≡ sizeIf (ruleOf form (treeOf (termRows x))) → (u : Tree) × (own form k (h .tree) ≡ go none u) × Turns (s .here) (h .tree) u n m
+    here-turns m q = let (u, g, b) = here-goes m q in (u, g, turns-anew (s .here) (h .tree) u n m (sym en) b)
 
 -- WHAT A RULE MAKES
 made-rule : (form : ℕ → Form) (k : ℕ) (t u : Tree) → isCall t ≡ false → own form k t ≡ go none u → ruleOf form t ≡ some u
@@ -147,6 +194,18 @@ module _ (form : ℕ → Form) (k : ℕ) (left left′ right right′ frames : L
       let q = rows-before right to right′ (s .r + old - new) new e (omega (arith, z, eo, all .2, ends)) lt (flat u) (spelled (h .rest)) made (ap (toCome right) z ∙ all .1) in
       here-behind form k left left′ right right′ frames s s′ (h .all .framesAround) (h .all .trees) (h .tree) u (h .outer) (h .rest) (here-site form k left right frames s t h here) (h .all .search) el ed same (ap (toCome right′) er ∙ q)
 
+-- it stands already
+pub falls-makes : (form : ℕ → Form) (left right : List ℕ) (s s′ : Stand) (old new : ℕ) → new ≡ 0 → s′ .l ≡ s .l → s′ .d ≡ s .d → s′ .r ≡ s .r + old → Makes form left left right right s s′ old new
+unfolding spelled
+falls-makes form left right s s′ old new z el ed er =
+    record {
+      long = refl;
+      changed = λ k frames t h u g turns.
+          let (here, e) = turns .stands z in
+          here-behind form k left left right right frames s s′ (h .all .framesAround) (h .all .trees) (h .tree) u (h .outer) (h .rest) (here-site form k left right frames s t h here) (h .all .search) el ed refl
+          (ap (toCome right) er ∙ behind-come form k left right frames s t h here u old (turns .within) e);
+    }
+
 -- the rows copied behind the rows passed
 module _ (m : Limits) (kept kept′ work : List ℕ) (s : Stand) (old : ℕ) (h : rowsAt m + 8 * s .l + 8 * old ≤ length kept) (g : 8 * s .r + 8 * old ≤ length work)
     (e : kept′ ≡ take (rowsAt m + 8 * s .l) kept ++ (take (8 * old) (drop (8 * s .r) work) ++ drop (rowsAt m + 8 * s .l + 8 * old) kept)) where
@@ -173,6 +232,16 @@ pub types-fit : (m : Limits) (n : ℕ) → n ≤ m .types → 20 + 36 * n ≤ ro
 unfolding rowsAt callsAt width
 types-fit m n h = omega (arith, h)
 
+-- a rule that writes something writes all rows of the tree that it makes
+pub going-anew : (form : ℕ → Form) (left right frames : List ℕ) (s : Stand) (old new : ℕ) → Turning form left right frames s old new → 0 < new → Going form left right frames s old new
+going-anew form left right frames s old new g writes =
+    record { trying = g .trying; made = g .made; goes = g .goes; rows = g .turns .anew writes; made-rows = omega (arith, g .turns .sizes, g .turns .anew writes) }
+
+pub falling-fits : (form : ℕ → Form) (left right frames : List ℕ) (s : Stand) (old new : ℕ) → Turning form left right frames s old new → new ≡ 0 → old ≤ rowCount right - s .r
+falling-fits form left right frames s old new g z =
+    let T = g .trying in
+    omega (arith, g .turns .within, here-fits form (T .number) left right frames s (T .whole) (T .halted) (g .turns .stands z .0))
+
 -- the rows lent to a rule that goes
 module _ (form : ℕ → Form) (left right frames : List ℕ) (s : Stand) (old new : ℕ) (here : s .here ≡ true) (g : Going form left right frames s old new) where
   abbrev T : Trying form left right frames s
@@ -193,14 +262,15 @@ module _ (form : ℕ → Form) (left right frames : List ℕ) (s : Stand) (old n
       ∙ length-map (flat (g .made)) raw ∙ length-flat (g .made) ∙ g .made-rows
 
 -- and what it writes
-pub here-makes : (form : ℕ → Form) (left left′ right right′ to x : List ℕ) (s s′ : Stand) (old new : ℕ) → s .here ≡ true → s .r ≤ rowCount right → new ≤ s .r + old → s′ .l ≡ s .l → s′ .d ≡ s .d → s′ .r ≡ s .r + old - new
+pub here-makes : (form : ℕ → Form) (left left′ right right′ to x : List ℕ) (s s′ : Stand) (old new : ℕ) → s .here ≡ true → 0 < new → s .r ≤ rowCount right → new ≤ s .r + old → s′ .l ≡ s .l → s′ .d ≡ s .d → s′ .r ≡ s .r + old - new
     → table left′ 0 (s .l) ≡ table left 0 (s .l) → x ≡ take (8 * old) (drop (8 * s .r) right) → rowTable to ≡ rowsIf (ruleOf form (treeOf (termRows x))) → length to ≡ 8 * new
     → right′ ≡ take (8 * (s .r + old - new)) right ++ (to ++ drop (8 * (s .r + old - new) + 8 * new) right) → length right′ ≡ length right
     → Makes form left left′ right right′ s s′ old new
-here-makes form left left′ right right′ to x s s′ old new here ends fits el ed er same ex rows lt e n =
+here-makes form left left′ right right′ to x s s′ old new here writes ends fits el ed er same ex rows lt e n =
     record {
       long = n;
-      changed = λ k frames t h u g eo.
+      changed = λ k frames t h u g turns.
+          let eo = turns .anew writes in
           let made = rows ∙ here-made-rows form k left left′ right right′ frames s s′ t h here u g x (here-table form k left right frames s t h here old x (sym eo) ex ends) in
           let count : size u ≡ new = sym (length-flat u) ∙ sym (length-map (flat u) raw) ∙ ap length (sym made) ∙ row-table-length to ∙ omega (arith, lt) in
           here-made form k left left′ right right′ frames s s′ t h here u g to old new eo count ends fits el ed er same made lt e;

@@ -1,13 +1,13 @@
 -- Where a search stops: the tree whose own rule is tried, the frames around it and the trees behind it; and what comes next. Assumes nothing.
-use Prim.Native.Nat.{ℕ, _*_, _-_, _<_, _≤_}
+use Prim.Native.Nat.{ℕ, _+_, _*_, _-_, _<_, _≤_}
 use mathlib.Core.Path.{_≡_}
 use mathlib.Core.Bool.{Bool, true, false}
 use mathlib.Core.List.{List, _∷_}
 use mathlib.Core.Option.{none, some}
-use lib.ListN.{length, take}
+use lib.ListN.{length, take, drop}
 use Rattle.meaning.specs.Bytes.{Limits, rowsAt}
 use Rattle.meaning.specs.Types.{Form}
-use Rattle.meaning.specs.Terms.{Head, arity, Tree, Forest, node, size, top}
+use Rattle.meaning.specs.Terms.{Head, arity, Tree, Forest, node, flat, size, top}
 use Rattle.meaning.specs.Steps.{Call, Out, stay, go, contract}
 use Rattle.meaning.specs.Entries.{letterOf}
 use Rattle.search.specs.Frames.{waits, Frame, below, around, Open}
@@ -40,11 +40,19 @@ pub record Halted (form : ℕ → Form) (k : ℕ) (left right frames : List ℕ)
   pub rest : List Tree
   pub site : Site (s .here) (all .framesAround) (all .trees) tree outer rest
 
--- what a rule that is tried tells: it stays; or it goes, its tree has so many rows, and the tree that it makes so many; or it sends
-unfoldable pub Tells : Tried → (ℕ → Form) → ℕ → Tree → Type 0
-Tells Stays form k t = own form k t ≡ stay
-Tells (Goes old new) form k t = (size t ≡ old) × ((u : Tree) × (own form k t ≡ go none u) × (size u ≡ new))
-Tells (Sends old) form k t = (size t ≡ old) × ((c : Call) × (u : Tree) × (own form k t ≡ go (some c) u))
+-- how tree t becomes u, where old rows give way to new ones: all rows of t to all of u; or, where t is at the search and none is written, those
+-- before u, which is the end of t and stands already
+pub record Turns (here : Bool) (t u : Tree) (old new : ℕ) : Type 0 where
+  pub within : old ≤ size t
+  pub sizes : size u + old ≡ size t + new
+  pub anew : 0 < new → size t ≡ old
+  pub stands : new ≡ 0 → (here ≡ true) × (flat u ≡ drop old (flat t))
+
+-- what a rule that is tried tells: it stays; or it goes, and so many rows give way to so many; or it sends, and its tree has so many
+unfoldable pub Tells : Tried → Bool → (ℕ → Form) → ℕ → Tree → Type 0
+Tells Stays here form k t = own form k t ≡ stay
+Tells (Goes old new) here form k t = (u : Tree) × (own form k t ≡ go none u) × Turns here t u old new
+Tells (Sends old) here form k t = (size t ≡ old) × ((c : Call) × (u : Tree) × (own form k t ≡ go (some c) u))
 
 -- Going on ----------------------------------------------------------------------------------------------------------
 

@@ -16,7 +16,7 @@ use Rattle.search.specs.Frames.{around}
 use Rattle.search.specs.Kept.{rowCount}
 use Rattle.search.specs.Search.{Room, Changed}
 use Rattle.search.specs.declared.Stand.{Stand}
-use Rattle.runs.specs.Sites.{Whole, Halted, own, Tells}
+use Rattle.runs.specs.Sites.{Whole, Halted, own, Turns, Tells}
 use Rattle.runs.specs.declared.Tried.{Tried}
 use Rattle.runs.specs.declared.Tried.the-variants.{Stays}
 use Rattle.runs.specs.declared.Next.{Next}
@@ -31,9 +31,16 @@ pub record Trying (form : ℕ → Form) (left right frames : List ℕ) (s : Stan
 
 -- what the rule there does
 abbrev pub Tries : (ℕ → Form) → List ℕ → List ℕ → List ℕ → Stand → Tried → Type 0
-Tries form left right frames s x = (k : ℕ) (t : Tree) (h : Halted form k left right frames s t) → Tells x form k (h .tree)
+Tries form left right frames s x = (k : ℕ) (t : Tree) (h : Halted form k left right frames s t) → Tells x (s .here) form k (h .tree)
 
 -- a rule that goes where the search has stopped
+pub record Turning (form : ℕ → Form) (left right frames : List ℕ) (s : Stand) (old new : ℕ) : Type 0 where
+  pub trying : Trying form left right frames s
+  pub made : Tree
+  pub goes : own form (trying .number) (trying .halted .tree) ≡ go none made
+  pub turns : Turns (s .here) (trying .halted .tree) made old new
+
+-- and writes all rows of the tree that it makes
 pub record Going (form : ℕ → Form) (left right frames : List ℕ) (s : Stand) (old new : ℕ) : Type 0 where
   pub trying : Trying form left right frames s
   pub made : Tree
@@ -44,14 +51,14 @@ pub record Going (form : ℕ → Form) (left right frames : List ℕ) (s : Stand
 -- it is carried out: the new tree stands in the place of the old one
 pub record Makes (form : ℕ → Form) (left left′ right right′ : List ℕ) (s s′ : Stand) (old new : ℕ) : Type 0 where
   pub long : length right′ ≡ length right
-  pub changed : (k : ℕ) (frames : List ℕ) (t : Tree) (h : Halted form k left right frames s t) (u : Tree) → own form k (h .tree) ≡ go none u → size (h .tree) ≡ old → Changed form k left′ right′ frames s′ (h .outer) u (h .rest)
+  pub changed : (k : ℕ) (frames : List ℕ) (t : Tree) (h : Halted form k left right frames s t) (u : Tree) → own form k (h .tree) ≡ go none u → Turns (s .here) (h .tree) u old new → Changed form k left′ right′ frames s′ (h .outer) u (h .rest)
 
 -- and the search is set where it goes on: the new whole has the rows of the old one, but for the tree's
 pub record Steps (form : ℕ → Form) (left left′ right right′ frames : List ℕ) (s s′ : Stand) (old new : ℕ) : Type 0 where
   pub long : length right′ ≡ length right
   pub room : Room left′ right′ frames s′
   pub total : s′ .l + (rowCount right′ - s′ .r) + old ≡ s .l + (rowCount right - s .r) + new
-  pub reached : (k : ℕ) (t : Tree) (h : Halted form k left right frames s t) (u : Tree) → own form k (h .tree) ≡ go none u → size (h .tree) ≡ old → Whole form k left′ right′ frames s′ (top (around (h .outer) (u ∷ h .rest)))
+  pub reached : (k : ℕ) (t : Tree) (h : Halted form k left right frames s t) (u : Tree) → own form k (h .tree) ≡ go none u → Turns (s .here) (h .tree) u old new → Whole form k left′ right′ frames s′ (top (around (h .outer) (u ∷ h .rest)))
 
 -- rows that begin with an application of a foreign function
 unfoldable pub callBy : List ℕ → Bool

@@ -19,7 +19,7 @@ ghost use Rattle.meaning.proofs.Trees.EachRow.{Every};
 ghost use Rattle.meaning.proofs.Bytes.RowTables.{legal};
 ghost use Rattle.search.specs.Search.{Room};
 ghost use Rattle.runs.specs.Sites.{Whole, Passing, Halts, GoesOn, InRecord, CallsOut, Calling};
-ghost use Rattle.runs.specs.Tries.{Trying, Tries, Going, Makes, Steps, Found, atRoot, callBy};
+ghost use Rattle.runs.specs.Tries.{Trying, Tries, Turning, Going, Makes, Steps, Found, atRoot, callBy};
 ghost use Rattle.runs.specs.Going.{space, Begins, PutBack, letterFrom};
 ghost use Rattle.runs.specs.Loops.{TellsValue, SentOff, Ready};
 ghost use Rattle.meaning.specs.Records.{headSound, openCount};
@@ -28,7 +28,8 @@ ghost use Rattle.meaning.specs.declared.Run.the-variants.{Ran};
 ghost use Rattle.runs.specs.Sites.{Halted, own};
 ghost use Rattle.meaning.specs.Steps.{stay};
 
-// What a rule that is tried tells: it stays; it goes, with the rows of its tree and of the tree that it makes; it sends, with the rows of its tree.
+// What a rule that is tried tells: it stays; it goes, with the rows that give way and the new rows; it sends, with the rows of its tree. A tree that
+// stands already, behind some rows of the one that reduces, has no new rows.
 pub enum Tried {
     Stays,
     Goes(usize, usize),
@@ -182,8 +183,8 @@ fn types_end(kept: &[u8]) -> usize
     20 + 36 * layout::wide(sound::head::type_count(kept))
 }
 
-// The rule of the tree at the search is tried.
-fn try_here(kept: &[u8], work: &[u8], s: Stand) -> Tried
+// The rule of the tree at the search is tried on all its rows.
+fn try_whole(kept: &[u8], work: &[u8], s: Stand) -> Tried
     requires { ⌜ (20 + 36 * typeCount (now kept) ≤ length (now kept)) × (rowCount (now work) ≤ 4096) × (s .here ≡ true) × ((left : List ℕ) × (frames : List ℕ) × Trying (formOf (typesIn (now kept))) left (now work) frames s × Room left (now work) frames s × (rowCount (now work) - s .r ≤ 2048)) ⌝ }
     ensures { λ x. ⌜ ((left : List ℕ) (frames : List ℕ) → Tries (formOf (typesIn (now (kept .entry)))) left (now (work .entry)) frames s x) ⌝ }
 {
@@ -197,6 +198,19 @@ fn try_here(kept: &[u8], work: &[u8], s: Stand) -> Tried
         Outcome::Stays => Tried::Stays,
         Outcome::Goes(new) => Tried::Goes(n, new),
     }
+}
+
+// The rule of the tree at the search is tried: it may make the end of that tree, which stands already.
+fn try_here(kept: &[u8], work: &[u8], s: Stand) -> Tried
+    requires { ⌜ (20 + 36 * typeCount (now kept) ≤ length (now kept)) × (rowCount (now work) ≤ 4096) × (s .here ≡ true) × ((left : List ℕ) × (frames : List ℕ) × Trying (formOf (typesIn (now kept))) left (now work) frames s × Room left (now work) frames s × (rowCount (now work) - s .r ≤ 2048)) ⌝ }
+    ensures { λ x. ⌜ ((left : List ℕ) (frames : List ℕ) → Tries (formOf (typesIn (now (kept .entry)))) left (now (work .entry)) frames s x) ⌝ }
+{
+    let r = s.r;
+    let k = reduce::behind::rows_before(&work[8 * r..]);
+    if 0 < k {
+        return Tried::Goes(k, 0);
+    }
+    try_whole(kept, work, s)
 }
 
 // A tree of old rows at the search becomes one of new rows, which ends where it ended: its rows are copied behind the rows passed, to be read there.
@@ -306,7 +320,7 @@ fn stay_on(kept: &mut [u8], work: &[u8], frames: &mut [u32], m: Limits, s: Stand
     stay_end(kept, frames, m, s)
 }
 
-// The rows of a tree that reduces, and of the tree that its rule makes.
+// The rows that give way, and how many come in their place.
 pub struct Change {
     pub old: usize,
     pub new: usize,
@@ -314,19 +328,28 @@ pub struct Change {
 
 // The rule where the search has stopped is carried out.
 fn make_rule(kept: &mut [u8], work: &mut [u8], m: Limits, s: Stand, c: Change) -> Stand
-    requires { ⌜ (length (now kept) ≡ recordBytes (board m)) × (typeCount (now kept) ≤ m .types) × (m .rows ≤ 2048) × (s .l + (rowCount (now work) - s .r) ≤ m .rows) × (m .rows + 2 ≤ rowCount (now work)) × (s .l + (rowCount (now work) - s .r) + c .new ≤ m .rows + c .old) × ((frames : List ℕ) × Room (space (board m) (now kept)) (now work) frames s × Going (formOf (typesIn (now kept))) (space (board m) (now kept)) (now work) frames s (c .old) (c .new)) ⌝ }
+    requires { ⌜ (length (now kept) ≡ recordBytes (board m)) × (typeCount (now kept) ≤ m .types) × (m .rows ≤ 2048) × (s .l + (rowCount (now work) - s .r) ≤ m .rows) × (m .rows + 2 ≤ rowCount (now work)) × (s .l + (rowCount (now work) - s .r) + c .new ≤ m .rows + c .old) × ((frames : List ℕ) × Room (space (board m) (now kept)) (now work) frames s × Turning (formOf (typesIn (now kept))) (space (board m) (now kept)) (now work) frames s (c .old) (c .new)) ⌝ }
     ensures { λ e. ⌜ InRecord (board m) (now (kept .entry)) (now (kept .exit)) × Makes (formOf (typesIn (now (kept .entry)))) (space (board m) (now (kept .entry))) (space (board m) (now (kept .exit))) (now (work .entry)) (now (work .exit)) s e (c .old) (c .new) ⌝ }
 {
+    let new = c.new;
+    if new == 0 {
+        return Stand {
+            l: s.l,
+            r: s.r + c.old,
+            d: s.d,
+            here: false,
+        };
+    }
     let here = s.here;
     if here {
-        return make_here(kept, work, m, s, c.old, c.new);
+        return make_here(kept, work, m, s, c.old, new);
     }
-    make_end(kept, work, m, s, c.old, c.new)
+    make_end(kept, work, m, s, c.old, new)
 }
 
 // A step: the rule where the search has stopped is carried out, and the search goes on at the new tree, or at the row around it if nothing else of that was passed.
 fn step(kept: &mut [u8], work: &mut [u8], frames: &[u32], m: Limits, s: Stand, c: Change) -> Stand
-    requires { ⌜ (length (now kept) ≡ recordBytes (board m)) × (typeCount (now kept) ≤ m .types) × (m .rows ≤ 2048) × (s .l + (rowCount (now work) - s .r) ≤ m .rows) × (m .rows + 2 ≤ rowCount (now work)) × (s .l + (rowCount (now work) - s .r) + c .new ≤ m .rows + c .old) × (m .rows ≤ length (now frames)) × Room (space (board m) (now kept)) (now work) (now frames) s × Going (formOf (typesIn (now kept))) (space (board m) (now kept)) (now work) (now frames) s (c .old) (c .new) ⌝ }
+    requires { ⌜ (length (now kept) ≡ recordBytes (board m)) × (typeCount (now kept) ≤ m .types) × (m .rows ≤ 2048) × (s .l + (rowCount (now work) - s .r) ≤ m .rows) × (m .rows + 2 ≤ rowCount (now work)) × (s .l + (rowCount (now work) - s .r) + c .new ≤ m .rows + c .old) × (m .rows ≤ length (now frames)) × Room (space (board m) (now kept)) (now work) (now frames) s × Turning (formOf (typesIn (now kept))) (space (board m) (now kept)) (now work) (now frames) s (c .old) (c .new) ⌝ }
     ensures { λ e. ⌜ InRecord (board m) (now (kept .entry)) (now (kept .exit)) × Steps (formOf (typesIn (now (kept .entry)))) (space (board m) (now (kept .entry))) (space (board m) (now (kept .exit))) (now (work .entry)) (now (work .exit)) (now (frames .entry)) s e (c .old) (c .new) ⌝ }
 {
     let e = make_rule(kept, work, m, s, c);

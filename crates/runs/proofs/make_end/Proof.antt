@@ -181,5 +181,5 @@ make-end-spec =
     let sum : b1 + (b1 + 8 * args .new - b1) ≡ b1 + 8 * args .new = omega arith in
     let back : take b1 (args .work .now) ++ (red .last .1 .1 .0 ++ drop (b1 + 8 * args .new - b1) (drop b1 (args .work .now))) ≡ take b1 (args .work .now) ++ (red .last .1 .1 .0 ++ drop (b1 + 8 * args .new) (args .work .now)) =
     ap (λ (l : List ℕ). take b1 (args .work .now) ++ (red .last .1 .1 .0 ++ l)) (drop-drop (b1 + 8 * args .new - b1) b1 (args .work .now) ∙ ap (λ (i : ℕ). drop i (args .work .now)) sum) in
-    end-makes form left (args .work .now) _ (red .last .1 .1 .0) x (args .s) _ (args .old) (args .new) (pre .2) l8 (G .1 .ends) (G .2) refl refl refl
+    end-makes form left (args .work .now) _ (red .last .1 .1 .0) x (args .s) _ (args .old) (args .new) (pre .2) (ending-some form left (args .work .now) (G .0) (args .s) (args .old) (args .new) (pre .2) l8 (G .3)) l8 (G .1 .ends) (G .2) refl refl refl
     ex (red .ensures ∙ ap (λ (l : List (List ℕ)). rowsIf (ruleOf (formOf l) (treeOf (termRows x)))) types) lt back (pasted-length (args .work .now) (red .last .1 .1 .0) _ b1 (8 * args .new) back (omega (arith, G .1 .ends, G .2)) lt)))

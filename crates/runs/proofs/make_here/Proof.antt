@@ -227,6 +227,6 @@ make-here-spec =
     let back : take b1 (args .work .now) ++ (red .last .1 .1 .0 ++ drop (b1 + 8 * args .new - b1) (drop b1 (args .work .now))) ≡ take b1 (args .work .now) ++ (red .last .1 .1 .0 ++ drop (b1 + 8 * args .new) (args .work .now)) =
     ap (λ (l : List ℕ). take b1 (args .work .now) ++ (red .last .1 .1 .0 ++ l)) (drop-drop (b1 + 8 * args .new - b1) b1 (args .work .now) ∙ ap (λ (i : ℕ). drop i (args .work .now)) sum) in (
       record { front = source-front mb (args .kept .now) kept1 (args .work .now) (args .s) (args .old) room1 room2 copied; long = source-long mb (args .kept .now) kept1 (args .work .now) (args .s) (args .old) room1 room2 copied },
-      here-makes form left (space mb kept1) (args .work .now) _ (red .last .1 .1 .0) x (args .s) _ (args .old) (args .new) (pre .2) (G .1 .ends) (G .3) refl refl refl
+      here-makes form left (space mb kept1) (args .work .now) _ (red .last .1 .1 .0) x (args .s) _ (args .old) (args .new) (pre .2) (going-some form left (args .work .now) (G .0) (args .s) (args .old) (args .new) (pre .2) (G .4)) (G .1 .ends) (G .3) refl refl refl
           (source-passed mb (args .kept .now) kept1 (args .work .now) (args .s) (args .old) room1 room2 copied) ex (red .ensures ∙ ap (λ (l : List (List ℕ)). rowsIf (ruleOf (formOf l) (treeOf (termRows x)))) types) lt back (pasted-length (args .work .now) (red .last .1 .1 .0) _ b1 (8 * args .new) back (omega (arith, of, G .1 .ends, G .3)) lt),
     )))

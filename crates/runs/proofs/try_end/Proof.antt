@@ -1,19 +1,19 @@
 -- The frame's rows are lent to its rule.
 use Prim.Native.Nat.{ℕ, _+_, _*_, _-_, _≤_}
-use mathlib.Core.Path.{refl, ap, sym, _∙_}
+use mathlib.Core.Path.{_≡_, refl, ap, sym, _∙_}
 use mathlib.Core.List.{List}
 use native.Mathlib.Omega.{arith}
 use lib.ListN.{length, take, drop}
 use Rattle.layout.specs.Rows.{board, termRows}
 use Rattle.meaning.specs.Types.{formOf}
-use Rattle.meaning.specs.Terms.{treeOf}
+use Rattle.meaning.specs.Terms.{size, treeOf}
 use Rattle.meaning.specs.Records.{typeCount, typesIn}
 use Rattle.reduce.specs.Rule.{told, sizeIf, ruleOf}
 use Rattle.runs.specs.Sites.{Tells}
 use Rattle.runs.specs.Going.{space}
 use Rattle.runs.proofs.PutBack.{record-long, rows-from}
 use Rattle.runs.proofs.GoingOn.{lent-rows}
-use Rattle.runs.proofs.Tries.{lent-types, types-fit}
+use Rattle.runs.proofs.Tries.{lent-types, types-fit, turns-anew}
 use Rattle.runs.proofs.EndTries.{end-row, end-size, end-below, end-length, end-call, end-redex, end-stays, end-goes, call-flag}
 use borrow.Author.Needs.{needs}
 use Rattle.runs.proofs.try_end.Statement.{statement}
@@ -310,4 +310,7 @@ try-end-spec =
     let ex = lent-rows mb (args .kept .now) p0 (8 * i) (8 * n) (c .before .before .before .before .before .before .before .before .before .before .rows-at .ensures) in
     let types = lent-types (args .kept .now) (c .before .before .before .before .before .before .types-end .result) (c .before .before .before .before .before .before .types-end .ensures) (omega (arith, types-fit mb (typeCount (args .kept .now)) (pre .1), pre .0, rl)) in
     let o = c .before .before .before .count .ensures ∙ ap (λ (l : List (List ℕ)). sizeIf (ruleOf (formOf l) (treeOf (termRows x)))) types in
-    λ work k t h. (sym (omega (arith, ei, end-size form k left work (args .frames .now) (args .s) t h (pre .2))), end-goes form k left work (args .frames .now) (args .s) t h (pre .2) i n x ei refl ex l8 (c .before .o .given .0 .0) (sym (c .before .before .before .before .before .before .before .before .is-call .ensures) ∙ c .before .before .before .before .before .before .before .if1 .left) (sym (ap told (c .before .o .given .1)) ∙ o)))))
+    λ work k t h.
+    let eo : size (h .tree) ≡ n = sym (omega (arith, ei, end-size form k left work (args .frames .now) (args .s) t h (pre .2))) in
+    let (u, g, b) = end-goes form k left work (args .frames .now) (args .s) t h (pre .2) i n x ei refl ex l8 (c .before .o .given .0 .0) (sym (c .before .before .before .before .before .before .before .before .is-call .ensures) ∙ c .before .before .before .before .before .before .before .if1 .left) (sym (ap told (c .before .o .given .1)) ∙ o) in
+    (u, g, turns-anew (args .s .here) (h .tree) u n _ eo b))))
