@@ -3,3 +3,4 @@ pub mod Turning
 pub mod Loops
 pub mod Meets
 pub mod Rows
+pub mod Bare

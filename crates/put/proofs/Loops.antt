@@ -105,7 +105,7 @@ module _ {l : List (List ℕ)} {body : ℕ} {names bounds : List ℕ} (ready : R
           pub copied-span : (f ≤ t) × (t ≤ length l)
           copied-span = rw (fe, te) (span-in o i (going-in .0) (chosen-below names (rowOf r .head) (getD masks (owed - 1) 0)))
 
-          turned : left form l names bounds masks owed i ≡ standing l f t ++ left form l names bounds masks′ owed′ (i + 1)
+          pub turned : left form l names bounds masks owed i ≡ standing l f t ++ left form l names bounds masks′ owed′ (i + 1)
           unfolding run
           turned =
               let k : owed ≡ suc (owed - 1) = omega arith in

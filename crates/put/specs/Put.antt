@@ -61,6 +61,10 @@ module _ (form : ℕ → Form) (names : List ℕ) where
   unfoldable pub after : Row → ℕ → List ℕ → List ℕ
   after r m ms = fan (arity (r .head)) (inner (r .head) (r .type) m) ms
 
+  -- a row that hides none of the names
+  abbrev pub Bare : Row → Type 0
+  Bare r = mark (binds form (r .head) (r .type)) names 0 ≡ 0
+
   -- THE PASS: the rows written for the trees still owed, a mask for each. "put the arguments or bound term, unevaluated, for the free names
   -- at once. A hidden name stays"
   unfoldable pub run : (ℕ → List (List ℕ)) → List (List ℕ) → List ℕ → List (List ℕ)

@@ -4,14 +4,16 @@ use layout::Row;
 use rules::names::Named;
 ghost use mathlib.Core.Path.{_≡_};
 ghost use mathlib.Core.List.{_++_};
-ghost use Prim.Native.Nat.{_+_, _*_, _-_, _≤_, _<_};
+ghost use Prim.Native.Nat.{ℕ, _+_, _*_, _-_, _≤_, _<_};
+ghost use mathlib.Core.Bool.{true, false};
 ghost use lib.ListN.{length, set, take, drop};
 ghost use Rattle.layout.specs.Rows.{numbers, found, typeTable, rowTable};
+ghost use Rattle.layout.specs.declared.Found.the-variants.{At};
 ghost use Rattle.meaning.specs.Types.{formOf, find, params};
 ghost use Rattle.meaning.specs.Terms.{arity, rowOf};
 ghost use Rattle.meaning.specs.Steps.{_∨ᵇ_};
 ghost use Rattle.terms.specs.Masks.{bit};
-ghost use Rattle.put.specs.Put.{pick, chosen, told, binds, mark, firstRow, endRow, Descends, Ready, putRows};
+ghost use Rattle.put.specs.Put.{standing, pick, chosen, told, binds, mark, Bare, firstRow, endRow, Descends, Ready, putRows};
 
 // The rows that are copied for a row: from and to.
 pub struct Span {
@@ -62,6 +64,17 @@ fn spot(names: &[u16], bounds: &[u16], m: u8, r: Row, i: usize) -> Span
         }
     }
     Span { from: i, to: i + 1 }
+}
+
+// Whether the rows that are copied for row i are row i.
+fn stays(s: Span, i: usize) -> bool
+    requires { ⌜ i < 4096 ⌝ }
+    ensures { λ b. ⌜ (b ≡ true → (s .from ≡ i) × (s .to ≡ i + 1)) ⌝ }
+{
+    if s.from == i {
+        return s.to == i + 1;
+    }
+    false
 }
 
 // Whether a function of type t binds the name x.
@@ -152,8 +165,23 @@ fn descend(types: &[u8], names: &[u16], r: Row, masks: &mut [u8], owed: usize) -
     n
 }
 
-// How many rows the body at a row has with the arguments put.
-pub fn count_put(types: &[u8], rows: &[u8], body: usize, names: &[u16], bounds: &[u16]) -> usize
+// Whether a row hides one of the names in its last tree.
+fn hides_some(types: &[u8], names: &[u16], r: Row) -> bool
+    requires { ⌜ length (now names) ≤ 8 ⌝ }
+    ensures { λ b. ⌜ (b ≡ false → Bare (formOf (typeTable (now (types .entry)))) (now (names .entry)) (rowOf (numbers r))) ⌝ }
+{
+    let k = r.kind;
+    if k == 6 {
+        return marked(types, names, r, 0) != 0;
+    }
+    if k == 19 {
+        return marked(types, names, r, 0) != 0;
+    }
+    false
+}
+
+// How many rows the body at a row has with the arguments put, by a mask for each tree owed.
+fn count_masked(types: &[u8], rows: &[u8], body: usize, names: &[u16], bounds: &[u16]) -> usize
     requires { ⌜ Ready (rowTable (now rows)) body (now names) (now bounds) ⌝ }
     ensures { λ n. ⌜ n ≡ length (putRows (formOf (typeTable (now (types .entry)))) (rowTable (now (rows .entry))) body (now (names .entry)) (now (bounds .entry))) ⌝ }
 {
@@ -171,8 +199,45 @@ pub fn count_put(types: &[u8], rows: &[u8], body: usize, names: &[u16], bounds: 
     w
 }
 
-// The rows of the body at a row with the arguments put, into a table of just as many.
-pub fn write_put(
+// The same where no row hides a name, with no mask; else nothing.
+fn count_bare(types: &[u8], rows: &[u8], body: usize, names: &[u16], bounds: &[u16]) -> Found
+    requires { ⌜ Ready (rowTable (now rows)) body (now names) (now bounds) ⌝ }
+    ensures { λ f. ⌜ ((n : ℕ) → f ≡ At n → n ≡ length (putRows (formOf (typeTable (now (types .entry)))) (rowTable (now (rows .entry))) body (now (names .entry)) (now (bounds .entry)))) ⌝ }
+{
+    let mut owed: usize = 1;
+    let mut i = body;
+    let mut w: usize = 0;
+    while 0 < owed {
+        let r = layout::row_at(rows, i);
+        if hides_some(types, names, r) {
+            return Found::Nothing;
+        }
+        let s = spot(names, bounds, 0, r, i);
+        owed = owed - 1 + terms::children(r);
+        w += s.to - s.from;
+        i += 1;
+    }
+    Found::At(w as u32)
+}
+
+// How many rows the body at a row has with the arguments put.
+pub fn count_put(types: &[u8], rows: &[u8], body: usize, names: &[u16], bounds: &[u16]) -> usize
+    requires { ⌜ Ready (rowTable (now rows)) body (now names) (now bounds) ⌝ }
+    ensures { λ n. ⌜ n ≡ length (putRows (formOf (typeTable (now (types .entry)))) (rowTable (now (rows .entry))) body (now (names .entry)) (now (bounds .entry))) ⌝ }
+{
+    let f = count_bare(types, rows, body, names, bounds);
+    match f {
+        Found::At(n) => {
+            return n as usize;
+        }
+        Found::Nothing => {
+            return count_masked(types, rows, body, names, bounds);
+        }
+    }
+}
+
+// The rows of the body at a row with the arguments put, by a mask for each tree owed, into a table of just as many.
+fn write_masked(
     types: &[u8],
     rows: &[u8],
     body: usize,
@@ -196,6 +261,71 @@ pub fn write_put(
         w += n;
         i += 1;
     }
+}
+
+// The rows of one span of a table and of another go to a table, from row w on.
+fn copy_both(to: &mut [u8], w: usize, rows: &[u8], a: Span, b: Span)
+    requires { ⌜ (a .from ≤ a .to) × (a .to ≤ length (rowTable (now rows))) × (b .from ≤ b .to) × (b .to ≤ length (rowTable (now rows))) × (length (now rows) ≤ 32768) × (w + ((a .to - a .from) + (b .to - b .from)) ≤ length (rowTable (now to))) ⌝ }
+    ensures { λ _. ⌜ rowTable (now (to .exit)) ≡ take w (rowTable (now (to .entry))) ++ ((standing (rowTable (now (rows .entry))) (a .from) (a .to) ++ standing (rowTable (now (rows .entry))) (b .from) (b .to)) ++ drop (w + ((a .to - a .from) + (b .to - b .from))) (rowTable (now (to .entry)))) ⌝ }
+{
+    let k = a.to - a.from;
+    let n = b.to - b.from;
+    copy_rows(to, w, rows, a.from, k);
+    copy_rows(to, w + k, rows, b.from, n);
+}
+
+// The same where no row hides a name, with no mask: rows that stand side by side are copied at once. Whether it is so.
+fn write_bare(
+    types: &[u8],
+    rows: &[u8],
+    body: usize,
+    names: &[u16],
+    bounds: &[u16],
+    to: &mut [u8],
+) -> bool
+    requires { ⌜ Ready (rowTable (now rows)) body (now names) (now bounds) × (length (now to) ≡ 8 * length (putRows (formOf (typeTable (now types))) (rowTable (now rows)) body (now names) (now bounds))) ⌝ }
+    ensures { λ b. ⌜ (b ≡ true → rowTable (now (to .exit)) ≡ putRows (formOf (typeTable (now (types .entry)))) (rowTable (now (rows .entry))) body (now (names .entry)) (now (bounds .entry))) ⌝ }
+{
+    let mut owed: usize = 1;
+    let mut i = body;
+    let mut from = body;
+    let mut w: usize = 0;
+    while 0 < owed {
+        let r = layout::row_at(rows, i);
+        if hides_some(types, names, r) {
+            return false;
+        }
+        owed = owed - 1 + terms::children(r);
+        let s = spot(names, bounds, 0, r, i);
+        if stays(s, i) {
+            i += 1;
+        } else {
+            copy_both(to, w, rows, Span { from: from, to: i }, s);
+            w += (i - from) + (s.to - s.from);
+            i += 1;
+            from = i;
+        }
+    }
+    copy_rows(to, w, rows, from, i - from);
+    true
+}
+
+// The rows of the body at a row with the arguments put, into a table of just as many.
+pub fn write_put(
+    types: &[u8],
+    rows: &[u8],
+    body: usize,
+    names: &[u16],
+    bounds: &[u16],
+    to: &mut [u8],
+)
+    requires { ⌜ Ready (rowTable (now rows)) body (now names) (now bounds) × (length (now to) ≡ 8 * length (putRows (formOf (typeTable (now types))) (rowTable (now rows)) body (now names) (now bounds))) ⌝ }
+    ensures { λ _. ⌜ rowTable (now (to .exit)) ≡ putRows (formOf (typeTable (now (types .entry)))) (rowTable (now (rows .entry))) body (now (names .entry)) (now (bounds .entry)) ⌝ }
+{
+    if write_bare(types, rows, body, names, bounds, to) {
+        return;
+    }
+    write_masked(types, rows, body, names, bounds, to);
 }
 
 // A new row, the i-th of a table.
