@@ -1,10 +1,10 @@
 -- A zip's arguments, one by one: where a head, a tail or the whole of each stands, and what is left. Assumes nothing.
-use Prim.Native.Nat.{ℕ, _+_, _-_, _/_, _%_, _≤_, _<_}
+use Prim.Native.Nat.{ℕ, suc, _+_, _-_, _/_, _%_, _≤_, _<_}
 use mathlib.Core.Path.{_≡_, refl, ap, sym, _∙_}
 use mathlib.Core.Bool.{Bool, true, false, cond}
 use mathlib.Core.List.{List, [], _++_, map, append-assoc, map-append}
 use native.Mathlib.Omega.{arith}
-use lib.ListN.{length, take, drop, length-append}
+use lib.ListN.{length, getD, take, drop, length-append}
 use lib.Seq.{take-at, length-take-le}
 use borrow.Author.Tests.{eqb-true}
 use Rattle.meaning.specs.Bytes.{_∧ᵇ_}
@@ -19,8 +19,8 @@ use Rattle.put.proofs.Loops.{standing-length}
 use Rattle.put.specs.declared.Span.{Span}
 use Rattle.meaning.specs.Types.{Form}
 use Rattle.reduce.specs.Plan.{rowNo, halfRows, ZipsAt}
-use Rattle.reduce.specs.Halves.{whichHalf, halfOf, Halves, HalfAt}
-use Rattle.reduce.proofs.Roots.{grove-two, kind-is, made-as, sized-as, arg-in, arg-next}
+use Rattle.reduce.specs.Halves.{whichHalf, halfOf, Halves, HalfAt, BoundsAt}
+use Rattle.reduce.proofs.Roots.{grove-two, grove-last, kind-is, made-as, sized-as, arg-in, arg-next}
 use Rattle.reduce.proofs.Zipped.{low-is, low-not, ready-on, nil-on, kids-on}
 
 -- One argument ---------------------------------------------------------------------------------------------------
@@ -81,6 +81,14 @@ module _ (l : List (List ℕ)) (exact : map raw (map rowOf l) ≡ l) (at h : ℕ
           high-end = omega (arith, q, head-ends);
           rows = rw (low-is h p) (stands l exact A t q (omega (arith, q, head-ends)) ∙ ap (λ (y : Tree). map raw (flat (kid 1 y))) (sym cons-made));
         }
+
+-- where it ends, told by the bounds of all
+pub bound-next : (l : List (List ℕ)) (first n : ℕ) (bounds : List ℕ) → BoundsAt l first n bounds → (j at e : ℕ) → j < n → at ≡ first + sizes (grove (map rowOf l) first j) → e ≡ getD bounds (j + 1) 0 → e ≡ at + size (treeAt (map rowOf l) at)
+bound-next l first n bounds d j at e h p q =
+    let M = map rowOf l in
+    let m : j + 1 ≡ suc j = omega arith in
+    let z : first + sizes (grove M first (suc j)) ≡ first + sizes (grove M first j) + size (treeAt M (first + sizes (grove M first j))) = omega (arith, grove-last M j first) in
+    q ∙ d .places (j + 1) (omega arith) ∙ ap (λ (x : ℕ). first + sizes (grove M first x)) m ∙ z ∙ ap (λ (x : ℕ). x + size (treeAt M x)) (sym p)
 
 -- All of them ----------------------------------------------------------------------------------------------------
 

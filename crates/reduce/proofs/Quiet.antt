@@ -1,6 +1,6 @@
 -- A rule that sends nothing does not ask for the next number; and rows that are a tree's are one. Assumes nothing.
 use Prim.Native.Nat.{ℕ, _≤_}
-use mathlib.Core.Path.{_≡_, refl, ap, sym, _∙_}
+use mathlib.Core.Path.{_≡_, refl, ap, sym, _∙_, subst}
 use mathlib.Core.Bool.{Bool, true, false, cond}
 use mathlib.Core.List.{List, [], _∷_, map}
 use mathlib.Core.Option.{Option, none, some}
@@ -14,7 +14,7 @@ use Rattle.meaning.specs.Typing.{firstIs}
 use Rattle.meaning.specs.Steps.{Out, stay, go, become, child, values, ready, anyNil, ifStep, isnilStep, projectStep, sendStep, lprojectStep, tie, fixStep, zipStep, applyStep, letStep, contract}
 use Rattle.meaning.specs.Types.{Param}
 use Rattle.meaning.specs.Terms.{nOf}
-use Rattle.meaning.specs.Terms.{kindNo, wordNo, rowFault, kindFields, none-used, a-number, withinOne}
+use Rattle.meaning.specs.Terms.{kindNo, nNo, wordNo, rowFault, kindFields, none-used, a-number, withinOne}
 use Rattle.meaning.proofs.Trees.Tests.{within-if}
 use native.Mathlib.Omega.{arith}
 use Rattle.meaning.specs.Records.{version}
@@ -130,6 +130,13 @@ one-range w e = by-test (within 1 65535 w) refl e
 word-fits : (count : ℕ) (r : List ℕ) → rowFault version count r ≡ none → kindNo r ≡ 19 → wordNo r ≤ 65535
 word-fits count r p k = one-range (wordNo r) (ap (λ (x : ℕ). withinOne (getD kindFields x none-used .words) (wordNo r)) (sym k) ∙ in-range version count r p .wordIn)
 
+args-fit : (count : ℕ) (r : List ℕ) → rowFault version count r ≡ none → kindNo r ≡ 8 → nNo r ≤ 8
+args-fit count r p k = subst (λ (x : ℕ). nNo r ≤ getD kindFields x none-used .nHigh) k (in-range version count r p .nTo)
+
+first-args : (count : ℕ) (x : Tree) → Every (legal count) x → kindNo (getD (map raw (flat x)) 0 []) ≡ 8 → nNo (getD (map raw (flat x)) 0 []) ≤ 8
+unfolding flat Every
+first-args count (node h u f) (p, ps) k = args-fit count (raw (record { head = h; type = u })) p k
+
 first-named : (count : ℕ) (x : Tree) → Every (legal count) x → kindNo (getD (map raw (flat x)) 0 []) ≡ 19 → wordNo (getD (map raw (flat x)) 0 []) ≤ 65535
 unfolding flat Every
 first-named count (node h u f) (p, ps) k = word-fits count (raw (record { head = h; type = u })) p k
@@ -146,6 +153,9 @@ module _ (rows : List ℕ) (t : Tree) (e : rowTable rows ≡ map raw (flat t)) w
   let-named : (count : ℕ) → Every (legal count) t → kindNo (getD (rowTable rows) 0 []) ≡ 19 → wordNo (getD (rowTable rows) 0 []) ≤ 65535
   let-named count d q = rw e (first-named count t d (rw e at q))
 
+  args-few : (count : ℕ) → Every (legal count) t → kindNo (getD (rowTable rows) 0 []) ≡ 8 → nNo (getD (rowTable rows) 0 []) ≤ 8
+  args-few count d q = rw e (first-args count t d (rw e at q))
+
   pub redex-of : (count : ℕ) → Every (legal count) t → length rows ≤ 16384 → Redex rows
   redex-of count d h =
       record {
@@ -153,4 +163,5 @@ module _ (rows : List ℕ) (t : Tree) (e : rowTable rows ≡ map raw (flat t)) w
         exact = ap (map raw) rows-flat ∙ sym e;
         one = ap size tree-is ∙ sym (length-flat t) ∙ sym (ap length e ∙ length-map (flat t) raw);
         name = let-named count d;
+        args = args-few count d;
       }

@@ -1,6 +1,7 @@
 -- What each plan says of the number of rows and of the rows. Assumes nothing.
-use Prim.Native.Nat.{ℕ, _+_, _*_, _-_, _≤_}
+use Prim.Native.Nat.{ℕ, _+_, _*_, _-_, _<_, _≤_}
 use mathlib.Core.Path.{_≡_, refl, ap, sym, _∙_}
+use mathlib.Core.Bool.{Bool, true, false}
 use mathlib.Core.List.{List, [], _∷_, _++_, map, append-nil}
 use mathlib.Core.Option.{Option, none, some}
 use native.Mathlib.Omega.{arith}
@@ -8,16 +9,18 @@ use lib.ListN.{length, getD, take, drop, length-append, length-take, length-drop
 use Rattle.layout.specs.Rows.{rowTable}
 use Rattle.layout.proofs.Tables.{row-table-append, row-table-take}
 use Rattle.meaning.specs.Types.{Form}
-use Rattle.meaning.specs.Terms.{Tree, flat, raw, rowOf, typeNo, treeOf}
+use Rattle.meaning.specs.Terms.{Tree, flat, raw, rowOf, kindNo, nNo, typeNo, size, treeOf, treeAt, grove}
+use Rattle.meaning.specs.Steps.{ready}
 use Rattle.meaning.proofs.Trees.Parse.{length-flat}
 use Rattle.put.specs.Put.{standing, rowsFor, chosen, after, run, argRows, putRows}
 use Rattle.put.proofs.Loops.{standing-length}
 use Rattle.reduce.specs.Rule.{ruleOf, sizeIf, rowsIf}
-use Rattle.reduce.specs.Plan.{rowsOf, rowNo, pairRows, zipRows, LetAt, CallsAt, TiesAt, ZipsAt, Plans}
+use Rattle.reduce.specs.Plan.{rowsOf, rowNo, ruleRows, pairRows, zipRows, LetAt, CallsAt, TiesAt, ZipsFrom, Plans}
 use Rattle.reduce.specs.Given.{tieRow, PutsRule}
 use Rattle.reduce.specs.declared.puts.Puts.{Puts}
 use Rattle.reduce.specs.declared.Plan.the-variants.{Stays, Part, Leaf, Pair, Let, Call, Tie, Zip}
 use Rattle.reduce.proofs.Filled.{pair-length}
+use Rattle.reduce.proofs.Zipped.{plan-unready}
 
 some-same : {A : Type 0} (a b : A) → _≡_ {A = Option A} (some a) (some b) → a ≡ b
 some-same a b e = cc
@@ -90,13 +93,12 @@ module _ (form : ℕ → Form) (l : List (List ℕ)) where
   unfolding Plans
   tie-of p = p
 
-  pub zip-of : (f : ℕ) → Plans form l (Zip f) → ZipsAt l f
+  pub zip-of : (f : ℕ) → Plans form l (Zip f) → ZipsFrom l f
   unfolding Plans
-  zip-of f (e, z) = z
+  zip-of f p = p
 
-  pub count-zip : (f n : ℕ) → Plans form l (Zip f) → n ≡ length (zipRows form l f) → some n ≡ sizeIf (ruleOf form (treeOf (map rowOf l)))
-  unfolding Plans
-  count-zip f n (e, z) q = size-told O (zipRows form l f) n e q
+  pub count-zip : (f n : ℕ) → ruleRows form l ≡ some (zipRows form l f) → n ≡ length (zipRows form l f) → some n ≡ sizeIf (ruleOf form (treeOf (map rowOf l)))
+  count-zip f n e q = size-told O (zipRows form l f) n e q
 
   pub count-puts : (p : Puts) (n : ℕ) → PutsRule form l [] p → n ≡ length (putRows form l (p .body) (take (p .count) (p .names)) (p .bounds)) → some n ≡ sizeIf (ruleOf form (treeOf (map rowOf l)))
   count-puts p n d q = size-told O (putRows form l (p .body) (take (p .count) (p .names)) (p .bounds)) n (d .rows) q
@@ -128,9 +130,17 @@ module _ (form : ℕ → Form) (l : List (List ℕ)) where
   unfolding Plans
   pair-rows t (e, h, k) = rows-told O (pairRows form l t) e
 
-  pub zip-rows : (f : ℕ) → Plans form l (Zip f) → rowsIf (ruleOf form (treeOf (map rowOf l))) ≡ zipRows form l f
-  unfolding Plans
-  zip-rows f (e, z) = rows-told O (zipRows form l f) e
+  pub zip-rows : (f : ℕ) → ruleRows form l ≡ some (zipRows form l f) → rowsIf (ruleOf form (treeOf (map rowOf l))) ≡ zipRows form l f
+  zip-rows f e = rows-told O (zipRows form l f) e
+
+  -- a zip that makes something has lists
+  pub zip-ready : (exact : map raw (map rowOf l) ≡ l) (one : size (treeOf (map rowOf l)) ≡ length l) (e : kindNo (rowNo l 0) ≡ 8) (q : kindNo (rowNo l 1) ≡ 15) (first : ℕ) (g : first ≡ 1 + size (treeAt (map rowOf l) 1)) (n : ℕ) → 0 < n → n ≡ 8 * length (rowsIf (ruleOf form (treeOf (map rowOf l))))
+      → true ≡ ready (nNo (rowNo l 1)) (grove (map rowOf l) first (nNo (rowNo l 0)))
+  zip-ready exact one e q first g n some-row k = by (ready (nNo (rowNo l 1)) (grove (map rowOf l) first (nNo (rowNo l 0)))) refl
+    where
+      by : (b : Bool) → ready (nNo (rowNo l 1)) (grove (map rowOf l) first (nNo (rowNo l 0))) ≡ b → true ≡ ready (nNo (rowNo l 1)) (grove (map rowOf l) first (nNo (rowNo l 0)))
+      by true p = sym p
+      by false p = absurd (omega (arith, some-row, k, stays-none (plan-unready l exact one e q first g form (sym p))))
 
   pub put-rows : (p : Puts) → PutsRule form l [] p → rowsIf (ruleOf form (treeOf (map rowOf l))) ≡ putRows form l (p .body) (take (p .count) (p .names)) (p .bounds)
   put-rows p d = rows-told O (putRows form l (p .body) (take (p .count) (p .names)) (p .bounds)) (d .rows)

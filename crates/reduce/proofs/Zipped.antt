@@ -16,8 +16,8 @@ use Rattle.meaning.proofs.Trees.Parse.{grove-more}
 use Rattle.terms.proofs.Scan.{grove-none, grove-size}
 use Rattle.put.proofs.Meets.{stands}
 use Rattle.reduce.specs.Rule.{quiet, ruleOf}
-use Rattle.reduce.specs.Plan.{rowsOf, rowNo, halfRows, zipRows, Plans}
-use Rattle.reduce.specs.declared.Plan.the-variants.{Stays, Leaf, Zip}
+use Rattle.reduce.specs.Plan.{rowsOf, rowNo, ruleRows, halfRows, zipRows, ZipsAt, Plans}
+use Rattle.reduce.specs.declared.Plan.the-variants.{Stays, Leaf}
 use Rattle.reduce.proofs.Quiet.{send-quiet}
 use Rattle.reduce.proofs.Roots.{grove-one, kind-is, made-as, sized-as}
 use Rattle.reduce.proofs.Given.{call-rule, call-size, call-more}
@@ -121,18 +121,19 @@ module _ (l : List (List ℕ)) (exact : map raw (map rowOf l) ≡ l) (one : size
     unfolding Plans rowsOf flat raw code nOf wordOf
     plan-short form r a = ap rowsOf (zip-rule form ∙ zip-ends form (U 0) (treeAt L 1) (grove L first (N 0)) (N 1) (sym r) (sym a))
 
-    pub plan-zip : (form : ℕ → Form) → true ≡ ready (N 1) (grove L first (N 0)) → false ≡ anyNil (N 1) (grove L first (N 0)) → Plans form l (Zip first)
-    unfolding Plans rowsOf zipCons zipRows halfRows kid child nth swap
+    pub zips-at : true ≡ ready (N 1) (grove L first (N 0)) → false ≡ anyNil (N 1) (grove L first (N 0)) → ZipsAt l first
+    zips-at r a = record { behind = omega (arith, zip-size); whole = zip-whole; lists = sym r; full = sym a }
+
+    pub plan-zip : (form : ℕ → Form) → true ≡ ready (N 1) (grove L first (N 0)) → false ≡ anyNil (N 1) (grove L first (N 0)) → ruleRows form l ≡ some (zipRows form l first)
+    unfolding rowsOf zipCons zipRows halfRows kid child nth swap
     plan-zip form r a =
         let args = grove L first (N 0) in
         let t1 : first ≡ 1 + size (treeAt L 1) = g in
-        let whole = zip-whole in (
-          ap rowsOf (zip-rule form ∙ zip-goes form (U 0) (treeAt L 1) args (N 1) (sym r) (sym a))
-              ∙ ap some (zip-flat (U 0) (elemOf (form (U 0))) (kid 1 (treeAt L 1)) (treeAt L 1) (kidsAt 1 (N 1) args) (kidsAt 2 (N 1) args))
-              ∙ ap (λ (k : Tree). some ((13 ∷ 0 ∷ U 0 ∷ 0 ∷ []) ∷ (8 ∷ N 0 ∷ elemOf (form (U 0)) ∷ 0 ∷ []) ∷ (map raw (flat (kid 1 k)) ++ (map raw (flats (kidsAt 1 (N 1) args)) ++ ((8 ∷ N 0 ∷ U 0 ∷ 0 ∷ []) ∷ (map raw (flat (treeAt L 1)) ++ map raw (flats (kidsAt 2 (N 1) args)))))))) zip-made
-              ∙ rw (stands l exact 2 first zip-size (omega (arith, whole)), stands l exact 1 first t1 (omega (arith, whole))) refl,
-          record { behind = omega (arith, zip-size); whole = whole; lists = sym r; full = sym a },
-        )
+        let whole = zip-whole in
+        ap rowsOf (zip-rule form ∙ zip-goes form (U 0) (treeAt L 1) args (N 1) (sym r) (sym a))
+        ∙ ap some (zip-flat (U 0) (elemOf (form (U 0))) (kid 1 (treeAt L 1)) (treeAt L 1) (kidsAt 1 (N 1) args) (kidsAt 2 (N 1) args))
+        ∙ ap (λ (k : Tree). some ((13 ∷ 0 ∷ U 0 ∷ 0 ∷ []) ∷ (8 ∷ N 0 ∷ elemOf (form (U 0)) ∷ 0 ∷ []) ∷ (map raw (flat (kid 1 k)) ++ (map raw (flats (kidsAt 1 (N 1) args)) ++ ((8 ∷ N 0 ∷ U 0 ∷ 0 ∷ []) ∷ (map raw (flat (treeAt L 1)) ++ map raw (flats (kidsAt 2 (N 1) args)))))))) zip-made
+        ∙ rw (stands l exact 2 first zip-size (omega (arith, whole)), stands l exact 1 first t1 (omega (arith, whole))) refl
 
 -- Argument by argument -------------------------------------------------------------------------------------------
 

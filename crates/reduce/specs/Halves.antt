@@ -3,7 +3,7 @@ use Prim.Native.Nat.{ℕ, _+_, _≤_}
 use mathlib.Core.Path.{_≡_}
 use mathlib.Core.Bool.{Bool, true, false, cond}
 use mathlib.Core.List.{List, map}
-use lib.ListN.{length}
+use lib.ListN.{length, getD}
 use Rattle.meaning.specs.Types.{low}
 use Rattle.meaning.specs.Terms.{flat, flats, sizes, raw, rowOf, treeAt, grove}
 use Rattle.meaning.specs.Steps.{kid, ready, anyNil, kidsAt}
@@ -24,6 +24,12 @@ pub record Halves (l : List (List ℕ)) (first n m : ℕ) : Type 0 where
   pub inside : first + sizes (grove (map rowOf l) first n) ≤ length l
   pub lists : ready m (grove (map rowOf l) first n) ≡ true
   pub full : anyNil m (grove (map rowOf l) first n) ≡ false
+
+-- where each argument begins, and where the last ends
+pub record BoundsAt (l : List (List ℕ)) (first n : ℕ) (bounds : List ℕ) : Type 0 where
+  pub long : length bounds ≡ 9
+  pub few : n ≤ 8
+  pub places : (j : ℕ) → j ≤ n → getD bounds j 0 ≡ first + sizes (grove (map rowOf l) first j)
 
 -- where the rows of one argument stand
 pub record HalfAt (l : List (List ℕ)) (at h : ℕ) (tails : Bool) (s : Span) : Type 0 where

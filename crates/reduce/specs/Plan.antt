@@ -32,6 +32,10 @@ LetAt l body = (kindNo (rowNo l 0) ≡ 19) × (body ≡ 1 + size (treeAt (map ro
 abbrev pub CallsAt : List (List ℕ) → ℕ → Type 0
 CallsAt l first = (kindNo (rowNo l 0) ≡ 8) × (kindNo (rowNo l 1) ≡ 6) × (first ≡ 1 + size (treeAt (map rowOf l) 1))
 
+-- a zip whose arguments stand from a row on
+abbrev pub ZipsFrom : List (List ℕ) → ℕ → Type 0
+ZipsFrom l first = (kindNo (rowNo l 0) ≡ 8) × (kindNo (rowNo l 1) ≡ 15) × (first ≡ 1 + size (treeAt (map rowOf l) 1))
+
 -- a zip of cons, whose arguments stand from a row on
 pub record ZipsAt (l : List (List ℕ)) (first : ℕ) : Type 0 where
   pub behind : 2 ≤ first
@@ -72,4 +76,4 @@ module _ (form : ℕ → Form) (l : List (List ℕ)) where
   Plans (Let body) = LetAt l body
   Plans (Call first) = CallsAt l first
   Plans Tie = TiesAt
-  Plans (Zip first) = (ruleRows form l ≡ some (zipRows first)) × ZipsAt l first
+  Plans (Zip first) = ZipsFrom l first

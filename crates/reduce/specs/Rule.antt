@@ -6,7 +6,7 @@ use mathlib.Core.Option.{Option, none, some}
 use lib.ListN.{length, getD}
 use Rattle.layout.specs.Rows.{rowTable, termRows}
 use Rattle.meaning.specs.Types.{Form}
-use Rattle.meaning.specs.Terms.{Tree, node, flat, size, raw, kindNo, wordNo, treeOf}
+use Rattle.meaning.specs.Terms.{Tree, node, flat, size, raw, kindNo, nNo, wordNo, treeOf}
 use Rattle.meaning.specs.Steps.{Out, stay, go, contract}
 use Rattle.reduce.specs.declared.Outcome.{Outcome}
 use Rattle.reduce.specs.declared.Outcome.the-variants.{Stays, Goes}
@@ -41,3 +41,5 @@ pub record Redex (rows : List ℕ) : Type 0 where
   pub one : size (treeOf (termRows rows)) ≡ length (rowTable rows)
   -- a let's name is in range
   pub name : kindNo (getD (rowTable rows) 0 []) ≡ 19 → wordNo (getD (rowTable rows) 0 []) ≤ 65535
+  -- a call's arguments are eight at most
+  pub args : kindNo (getD (rowTable rows) 0 []) ≡ 8 → nNo (getD (rowTable rows) 0 []) ≤ 8

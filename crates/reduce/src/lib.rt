@@ -39,7 +39,7 @@ pub enum Plan {
     Call(usize),
     // a function with the fix term put for its first name
     Tie,
-    // a zip of cons: the arguments begin at a row
+    // a zip: the arguments begin at a row
     Zip(usize),
 }
 
@@ -118,7 +118,7 @@ pub fn count(types: &[u8], rows: &[u8]) -> Outcome
             return Outcome::Goes(puts::count_tie(types, rows));
         }
         Plan::Zip(first) => {
-            return Outcome::Goes(zips::count_zip(rows, first));
+            return zips::count_zip(rows, first);
         }
     }
 }

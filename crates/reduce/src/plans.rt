@@ -2,7 +2,6 @@
 use crate::Plan;
 use crate::places;
 use crate::puts;
-use crate::zips;
 ghost use mathlib.Core.Path.{_≡_};
 ghost use mathlib.Core.Bool.{true};
 ghost use Prim.Native.Nat.{ℕ, _-_, _<_};
@@ -106,7 +105,7 @@ pub fn plan_call(rows: &[u8]) -> Plan
         return Plan::Call(terms::end_of(rows, 1));
     }
     if k == 15 {
-        return zips::plan_zip(rows);
+        return Plan::Zip(terms::end_of(rows, 1));
     }
     Plan::Stays
 }

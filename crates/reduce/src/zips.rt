@@ -1,5 +1,5 @@
 // The rule of a zip: its arguments one by one, both halves of what it makes.
-use crate::Plan;
+use crate::Outcome;
 use crate::places;
 use crate::puts;
 use layout::Row;
@@ -9,15 +9,15 @@ ghost use mathlib.Core.Bool.{true, cond};
 ghost use mathlib.Core.List.{_∷_, _++_, map};
 ghost use Prim.Native.Nat.{ℕ, _+_, _*_, _-_, _≤_, _<_};
 ghost use lib.ListN.{length, take};
-ghost use Rattle.layout.specs.Rows.{numbers, typeTable, rowTable};
+ghost use Rattle.layout.specs.Rows.{numbers, typeTable, rowTable, termRows};
 ghost use Rattle.meaning.specs.Types.{Form, formOf, low};
-ghost use Rattle.meaning.specs.Terms.{rowOf, kindNo, is, size, sizes, treeAt, grove};
+ghost use Rattle.meaning.specs.Terms.{rowOf, nNo, is, size, sizes, treeOf, treeAt, grove};
 ghost use Rattle.meaning.specs.Bytes.{_∧ᵇ_};
 ghost use Rattle.meaning.specs.Steps.{isList, ready, anyNil};
-ghost use Rattle.reduce.specs.Rule.{Redex};
-ghost use Rattle.reduce.specs.Plan.{rowNo, zipRows, Plans, ZipsAt};
+ghost use Rattle.reduce.specs.Rule.{ruleOf, sizeIf, rowsIf, told, Redex};
+ghost use Rattle.reduce.specs.Plan.{rowNo, zipRows, ZipsFrom, ZipsAt};
 ghost use Rattle.put.specs.Put.{standing};
-ghost use Rattle.reduce.specs.Halves.{halfOf, Halves, HalfAt};
+ghost use Rattle.reduce.specs.Halves.{halfOf, Halves, HalfAt, BoundsAt};
 
 // Whether the argument at a row is a list, if the mask's first bit asks for one.
 pub fn ready_at(rows: &[u8], at: usize, h: u8) -> bool
@@ -47,8 +47,8 @@ pub fn nil_at(rows: &[u8], at: usize, h: u8) -> bool
 }
 
 // Whether of n arguments from a row on those that are masked are nil or cons.
-pub fn all_lists(rows: &[u8], first: usize, n: usize, m: u8) -> bool
-    requires { ⌜ (length (now rows) ≤ 16384) × (first + sizes (grove (map rowOf (rowTable (now rows))) first n) ≤ length (rowTable (now rows))) ⌝ }
+pub fn all_lists(rows: &[u8], first: usize, n: usize, m: u8, bounds: &[u16]) -> bool
+    requires { ⌜ BoundsAt (rowTable (now rows)) first n (now bounds) × (first + sizes (grove (map rowOf (rowTable (now rows))) first n) ≤ length (rowTable (now rows))) ⌝ }
     ensures { λ b. ⌜ b ≡ ready m (grove (map rowOf (rowTable (now (rows .entry)))) first n) ⌝ }
 {
     let mut h = m;
@@ -56,7 +56,7 @@ pub fn all_lists(rows: &[u8], first: usize, n: usize, m: u8) -> bool
     let mut j: usize = 0;
     while j < n {
         if ready_at(rows, at, h) {
-            at = terms::end_of(rows, at);
+            at = layout::wide(bounds[j + 1]);
             h = h / 2;
             j += 1;
         } else {
@@ -67,8 +67,8 @@ pub fn all_lists(rows: &[u8], first: usize, n: usize, m: u8) -> bool
 }
 
 // Whether one of them is nil.
-pub fn any_nil(rows: &[u8], first: usize, n: usize, m: u8) -> bool
-    requires { ⌜ (length (now rows) ≤ 16384) × (first + sizes (grove (map rowOf (rowTable (now rows))) first n) ≤ length (rowTable (now rows))) ⌝ }
+pub fn any_nil(rows: &[u8], first: usize, n: usize, m: u8, bounds: &[u16]) -> bool
+    requires { ⌜ BoundsAt (rowTable (now rows)) first n (now bounds) × (first + sizes (grove (map rowOf (rowTable (now rows))) first n) ≤ length (rowTable (now rows))) ⌝ }
     ensures { λ b. ⌜ b ≡ anyNil m (grove (map rowOf (rowTable (now (rows .entry)))) first n) ⌝ }
 {
     let mut h = m;
@@ -78,46 +78,28 @@ pub fn any_nil(rows: &[u8], first: usize, n: usize, m: u8) -> bool
         if nil_at(rows, at, h) {
             return true;
         }
-        at = terms::end_of(rows, at);
+        at = layout::wide(bounds[j + 1]);
         h = h / 2;
         j += 1;
     }
     false
 }
 
-// Of a zip: "When all are nil or cons: any nil gives nil; otherwise a cons".
-pub fn plan_zip(rows: &[u8]) -> Plan
-    requires { ⌜ Redex (now rows) × (kindNo (rowNo (rowTable (now rows)) 0) ≡ 8) × (kindNo (rowNo (rowTable (now rows)) 1) ≡ 15) ⌝ }
-    ensures { λ p. ⌜ ((form : ℕ → Form) → Plans form (rowTable (now (rows .entry))) p) ⌝ }
-{
-    let r = places::row_of(rows, 0);
-    let n = r.n as usize;
-    let c = places::row_of(rows, 1);
-    let m = c.n;
-    let first = terms::end_of(rows, 1);
-    if all_lists(rows, first, n, m) {
-        if any_nil(rows, first, n, m) {
-            return Plan::Leaf(12);
-        }
-        return Plan::Zip(first);
-    }
-    Plan::Stays
-}
-
-// A zip's arguments: their first row, how many, the mask, and whether their tails are meant or their heads.
+// One side of what a zip makes: the row where its function's rows begin, the arguments' first row, how many, the mask, and whether their tails are
+// meant or their heads.
 pub struct Half {
+    pub from: usize,
     pub first: usize,
     pub n: usize,
     pub mask: u8,
     pub tails: bool,
 }
 
-// The rows of an argument, met under what is left of the mask: its head or its tail where it is masked, else all of it.
-pub fn half_at(rows: &[u8], at: usize, h: u8, tails: bool) -> Span
-    requires { ⌜ Redex (now rows) × (at + size (treeAt (map rowOf (rowTable (now rows))) at) ≤ length (rowTable (now rows))) × (low h ≡ true → is 13 (treeAt (map rowOf (rowTable (now rows))) at) ≡ true) ⌝ }
+// The rows of an argument that ends before row e, met under what is left of the mask: its head or its tail where it is masked, else all of it.
+pub fn half_at(rows: &[u8], at: usize, e: usize, h: u8, tails: bool) -> Span
+    requires { ⌜ Redex (now rows) × (e ≡ at + size (treeAt (map rowOf (rowTable (now rows))) at)) × (at + size (treeAt (map rowOf (rowTable (now rows))) at) ≤ length (rowTable (now rows))) × (low h ≡ true → is 13 (treeAt (map rowOf (rowTable (now rows))) at) ≡ true) ⌝ }
     ensures { λ s. ⌜ HalfAt (rowTable (now (rows .entry))) at h tails s ⌝ }
 {
-    let e = terms::end_of(rows, at);
     if h % 2 != 1 {
         return Span { from: at, to: e };
     }
@@ -132,8 +114,8 @@ pub fn half_at(rows: &[u8], at: usize, h: u8, tails: bool) -> Span
 }
 
 // How many rows a zip's arguments have in one half.
-pub fn count_half(rows: &[u8], z: Half) -> usize
-    requires { ⌜ Redex (now rows) × Halves (rowTable (now rows)) (z .first) (z .n) (z .mask) ⌝ }
+pub fn count_half(rows: &[u8], z: Half, bounds: &[u16]) -> usize
+    requires { ⌜ Redex (now rows) × Halves (rowTable (now rows)) (z .first) (z .n) (z .mask) × BoundsAt (rowTable (now rows)) (z .first) (z .n) (now bounds) ⌝ }
     ensures { λ n. ⌜ (n ≡ length (halfOf (rowTable (now (rows .entry))) (z .first) (z .n) (z .mask) (z .tails))) × (n ≤ 522240) ⌝ }
 {
     let n = z.n;
@@ -143,9 +125,10 @@ pub fn count_half(rows: &[u8], z: Half) -> usize
     let mut w: usize = 0;
     let mut j: usize = 0;
     while j < n {
-        let s = half_at(rows, at, h, tails);
+        let e = layout::wide(bounds[j + 1]);
+        let s = half_at(rows, at, e, h, tails);
         w += s.to - s.from;
-        at = terms::end_of(rows, at);
+        at = e;
         h = h / 2;
         j += 1;
     }
@@ -153,8 +136,8 @@ pub fn count_half(rows: &[u8], z: Half) -> usize
 }
 
 // A zip's arguments in one half, written from row `start` of a table on; the row behind them.
-pub fn write_half(rows: &[u8], z: Half, to: &mut [u8], start: usize) -> usize
-    requires { ⌜ Redex (now rows) × Halves (rowTable (now rows)) (z .first) (z .n) (z .mask) × (start + length (halfOf (rowTable (now rows)) (z .first) (z .n) (z .mask) (z .tails)) ≤ length (rowTable (now to))) ⌝ }
+pub fn write_half(rows: &[u8], z: Half, to: &mut [u8], start: usize, bounds: &[u16]) -> usize
+    requires { ⌜ Redex (now rows) × Halves (rowTable (now rows)) (z .first) (z .n) (z .mask) × BoundsAt (rowTable (now rows)) (z .first) (z .n) (now bounds) × (start + length (halfOf (rowTable (now rows)) (z .first) (z .n) (z .mask) (z .tails)) ≤ length (rowTable (now to))) ⌝ }
     ensures { λ r. ⌜ (r ≡ start + length (halfOf (rowTable (now (rows .entry))) (z .first) (z .n) (z .mask) (z .tails))) × (take r (rowTable (now (to .exit))) ≡ take start (rowTable (now (to .entry))) ++ halfOf (rowTable (now (rows .entry))) (z .first) (z .n) (z .mask) (z .tails)) ⌝ }
 {
     let n = z.n;
@@ -164,31 +147,40 @@ pub fn write_half(rows: &[u8], z: Half, to: &mut [u8], start: usize) -> usize
     let mut w = start;
     let mut j: usize = 0;
     while j < n {
-        let s = half_at(rows, at, h, tails);
+        let e = layout::wide(bounds[j + 1]);
+        let s = half_at(rows, at, e, h, tails);
         let k = s.to - s.from;
         put::copy_rows(to, w, rows, s.from, k);
         w += k;
-        at = terms::end_of(rows, at);
+        at = e;
         h = h / 2;
         j += 1;
     }
     w
 }
 
-// Of a cons that a zip makes, one side: a call's row, the function's rows from row `from` on, the arguments; the row behind them.
-pub fn write_side(rows: &[u8], r: Row, from: usize, z: Half, to: &mut [u8], start: usize) -> usize
-    requires { ⌜ Redex (now rows) × Halves (rowTable (now rows)) (z .first) (z .n) (z .mask) × (from ≤ z .first) × (start + (1 + (z .first - from) + length (halfOf (rowTable (now rows)) (z .first) (z .n) (z .mask) (z .tails))) ≤ length (rowTable (now to))) ⌝ }
-    ensures { λ e. ⌜ (e ≡ start + (1 + (z .first - from) + length (halfOf (rowTable (now (rows .entry))) (z .first) (z .n) (z .mask) (z .tails)))) × (take e (rowTable (now (to .exit))) ≡ take start (rowTable (now (to .entry))) ++ (numbers r ∷ (standing (rowTable (now (rows .entry))) from (z .first) ++ halfOf (rowTable (now (rows .entry))) (z .first) (z .n) (z .mask) (z .tails)))) ⌝ }
+// Of a cons that a zip makes, one side: a call's row, the function's rows, the arguments; the row behind them.
+pub fn write_side(
+    rows: &[u8],
+    r: Row,
+    z: Half,
+    to: &mut [u8],
+    start: usize,
+    bounds: &[u16],
+) -> usize
+    requires { ⌜ Redex (now rows) × Halves (rowTable (now rows)) (z .first) (z .n) (z .mask) × BoundsAt (rowTable (now rows)) (z .first) (z .n) (now bounds) × (z .from ≤ z .first) × (start + (1 + (z .first - z .from) + length (halfOf (rowTable (now rows)) (z .first) (z .n) (z .mask) (z .tails))) ≤ length (rowTable (now to))) ⌝ }
+    ensures { λ e. ⌜ (e ≡ start + (1 + (z .first - z .from) + length (halfOf (rowTable (now (rows .entry))) (z .first) (z .n) (z .mask) (z .tails)))) × (take e (rowTable (now (to .exit))) ≡ take start (rowTable (now (to .entry))) ++ (numbers r ∷ (standing (rowTable (now (rows .entry))) (z .from) (z .first) ++ halfOf (rowTable (now (rows .entry))) (z .first) (z .n) (z .mask) (z .tails)))) ⌝ }
 {
+    let from = z.from;
     let n = z.first - from;
     put::write_row(to, start, r);
     put::copy_rows(to, start + 1, rows, from, n);
-    write_half(rows, z, to, start + 1 + n)
+    write_half(rows, z, to, start + 1 + n, bounds)
 }
 
 // How many rows a zip of cons makes, whose arguments begin at a row.
-pub fn count_zip(rows: &[u8], first: usize) -> usize
-    requires { ⌜ Redex (now rows) × ZipsAt (rowTable (now rows)) first ⌝ }
+pub fn count_full(rows: &[u8], first: usize, bounds: &[u16]) -> usize
+    requires { ⌜ Redex (now rows) × ZipsAt (rowTable (now rows)) first × BoundsAt (rowTable (now rows)) first (nNo (rowNo (rowTable (now rows)) 0)) (now bounds) ⌝ }
     ensures { λ n. ⌜ ((form : ℕ → Form) → n ≡ length (zipRows form (rowTable (now (rows .entry))) first)) ⌝ }
 {
     let r = places::row_of(rows, 0);
@@ -198,27 +190,31 @@ pub fn count_zip(rows: &[u8], first: usize) -> usize
     let a = count_half(
         rows,
         Half {
+            from: 2,
             first: first,
             n: n,
             mask: m,
             tails: false,
         },
+        bounds,
     );
     let b = count_half(
         rows,
         Half {
+            from: 1,
             first: first,
             n: n,
             mask: m,
             tails: true,
         },
+        bounds,
     );
     3 + (first - 2) + a + (first - 1) + b
 }
 
 // The rows of a zip of cons.
-pub fn write_zip(types: &[u8], rows: &[u8], first: usize, to: &mut [u8])
-    requires { ⌜ Redex (now rows) × ZipsAt (rowTable (now rows)) first × (length (now to) ≡ 8 * length (zipRows (formOf (typeTable (now types))) (rowTable (now rows)) first)) ⌝ }
+pub fn write_full(types: &[u8], rows: &[u8], first: usize, bounds: &[u16], to: &mut [u8])
+    requires { ⌜ Redex (now rows) × ZipsAt (rowTable (now rows)) first × BoundsAt (rowTable (now rows)) first (nNo (rowNo (rowTable (now rows)) 0)) (now bounds) × (length (now to) ≡ 8 * length (zipRows (formOf (typeTable (now types))) (rowTable (now rows)) first)) ⌝ }
     ensures { λ _. ⌜ rowTable (now (to .exit)) ≡ zipRows (formOf (typeTable (now (types .entry)))) (rowTable (now (rows .entry))) first ⌝ }
 {
     let r = places::row_of(rows, 0);
@@ -244,8 +240,8 @@ pub fn write_zip(types: &[u8], rows: &[u8], first: usize, to: &mut [u8])
             ty: e,
             word: 0,
         },
-        2,
         Half {
+            from: 2,
             first: first,
             n: n,
             mask: m,
@@ -253,6 +249,7 @@ pub fn write_zip(types: &[u8], rows: &[u8], first: usize, to: &mut [u8])
         },
         to,
         1,
+        bounds,
     );
     write_side(
         rows,
@@ -262,8 +259,8 @@ pub fn write_zip(types: &[u8], rows: &[u8], first: usize, to: &mut [u8])
             ty: r.ty,
             word: 0,
         },
-        1,
         Half {
+            from: 1,
             first: first,
             n: n,
             mask: m,
@@ -271,5 +268,44 @@ pub fn write_zip(types: &[u8], rows: &[u8], first: usize, to: &mut [u8])
         },
         to,
         w,
+        bounds,
     );
+}
+
+// Of a zip: "When all are nil or cons: any nil gives nil; otherwise a cons". What it makes, counted; the arguments begin at a row.
+pub fn count_zip(rows: &[u8], first: usize) -> Outcome
+    requires { ⌜ Redex (now rows) × ZipsFrom (rowTable (now rows)) first ⌝ }
+    ensures { λ r. ⌜ ((form : ℕ → Form) → told r ≡ sizeIf (ruleOf form (treeOf (termRows (now (rows .entry)))))) ⌝ }
+{
+    let r = places::row_of(rows, 0);
+    let c = places::row_of(rows, 1);
+    let n = r.n as usize;
+    let m = c.n;
+    let mut bounds = [0u16; 9];
+    puts::fill_bounds(rows, first, n, &mut bounds);
+    if all_lists(rows, first, n, m, &bounds) {
+        if any_nil(rows, first, n, m, &bounds) {
+            return Outcome::Goes(1);
+        }
+        return Outcome::Goes(count_full(rows, first, &bounds));
+    }
+    Outcome::Stays
+}
+
+// The rows that it makes, into a table of just as many.
+pub fn write_zip(types: &[u8], rows: &[u8], first: usize, to: &mut [u8])
+    requires { ⌜ Redex (now rows) × ZipsFrom (rowTable (now rows)) first × (0 < length (now to)) × (length (now to) ≡ 8 * length (rowsIf (ruleOf (formOf (typeTable (now types))) (treeOf (termRows (now rows)))))) ⌝ }
+    ensures { λ _. ⌜ rowTable (now (to .exit)) ≡ rowsIf (ruleOf (formOf (typeTable (now (types .entry)))) (treeOf (termRows (now (rows .entry))))) ⌝ }
+{
+    let r = places::row_of(rows, 0);
+    let c = places::row_of(rows, 1);
+    let n = r.n as usize;
+    let m = c.n;
+    let mut bounds = [0u16; 9];
+    puts::fill_bounds(rows, first, n, &mut bounds);
+    if any_nil(rows, first, n, m, &bounds) {
+        crate::write_leaf(rows, 12, to);
+        return;
+    }
+    write_full(types, rows, first, &bounds, to);
 }

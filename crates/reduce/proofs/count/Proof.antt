@@ -5,7 +5,7 @@ use Rattle.layout.specs.Rows.{typeTable, rowTable}
 use Rattle.layout.proofs.Tables.{row-table-length}
 use Rattle.meaning.specs.Types.{formOf}
 use Rattle.reduce.specs.Plan.{Plans}
-use Rattle.reduce.proofs.Told.{count-stays, part-rises, count-part, count-leaf, count-pair, let-of, call-of, tie-of, zip-of, count-zip, count-puts}
+use Rattle.reduce.proofs.Told.{count-stays, part-rises, count-part, count-leaf, count-pair, let-of, call-of, tie-of, zip-of, count-puts}
 use borrow.Author.Needs.{needs}
 use Rattle.reduce.proofs.count.Statement.{statement}
 use Rattle.reduce.proofs.count.Tie as tie
@@ -143,12 +143,7 @@ count-zip-requires c κs =
     (s .pre, zip-of F T _ q)
 
 returns-8 : tie.Need-returns-8
-returns-8 c =
-    let s = c .before .before .before .before .before .before .before in
-    let T = rowTable (s .args .rows .now) in
-    let F = formOf (typeTable (s .args .types .now)) in
-    let q = subst (Plans F T) (c .before .before .p6 .given .1) (c .before .before .before .before .plan-of .ensures) in
-    count-zip F T _ _ q (c .count-zip .ensures F)
+returns-8 c = c .count-zip .ensures (formOf (typeTable (c .before .before .before .before .before .before .before .args .types .now)))
 
 pub count-spec : {M : Type 1} → statement M
 count-spec =

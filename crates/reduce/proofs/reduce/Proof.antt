@@ -10,7 +10,7 @@ use Rattle.meaning.specs.Types.{formOf}
 use Rattle.reduce.specs.Plan.{Plans}
 use Rattle.put.proofs.Loops.{standing-length}
 use Rattle.reduce.proofs.Roots.{some-row}
-use Rattle.reduce.proofs.Told.{stays-none, part-rises, part-rows, leaf-rows, pair-rises, pair-rows, let-of, call-of, tie-of, zip-of, zip-rows, put-rows, part-copied}
+use Rattle.reduce.proofs.Told.{stays-none, part-rises, part-rows, leaf-rows, pair-rises, pair-rows, let-of, call-of, tie-of, zip-of, put-rows, part-copied}
 use borrow.Author.Needs.{needs}
 use Rattle.reduce.proofs.reduce.Statement.{statement}
 use Rattle.reduce.proofs.reduce.Tie as tie
@@ -198,20 +198,13 @@ write-zip-requires c κs =
     let T = rowTable (s .args .rows .now) in
     let F = formOf (typeTable (s .args .types .now)) in
     let q = subst (Plans F T) (c .before .before .p6 .given .1) (c .before .before .before .before .plan-of .ensures) in
-    let rs = zip-rows F T _ q in
-    let ln = s .pre .2 ∙ ap (λ (x : List (List ℕ)). 8 * length x) rs in
-    (s .pre .0, zip-of F T _ q, ln)
+    (s .pre .0, zip-of F T _ q, s .pre .1, s .pre .2)
 
 same-length-7 : tie.Need-same-length-7
 same-length-7 c = search needs
 
 returns-8 : tie.Need-returns-8
-returns-8 c =
-    let s = c .before .before .before .before .before .before .before .before .before .before .before in
-    let T = rowTable (s .args .rows .now) in
-    let F = formOf (typeTable (s .args .types .now)) in
-    let q = subst (Plans F T) (c .before .before .before .before .before .p6 .given .1) (c .before .before .before .before .before .before .before .plan-of .ensures) in
-    c .before .before .write-zip .ensures ∙ sym (zip-rows F T _ q)
+returns-8 c = c .before .before .write-zip .ensures
 
 pub reduce-spec : {M : Type 1} → statement M
 reduce-spec =

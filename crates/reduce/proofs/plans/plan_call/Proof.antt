@@ -31,11 +31,15 @@ end-of-requires c κs =
 returns : tie.Need-returns
 returns c = λ form. unfold Plans in (c .before .before .before .before .pre .1, sym (c .before .before .kind-of .ensures) ∙ c .before .if1 .taken, c .end-of .ensures)
 
-plan-zip-requires : tie.Need-plan-zip-requires
-plan-zip-requires c κs = search needs
+end-of-requires-2 : tie.Need-end-of-requires-2
+end-of-requires-2 c κs =
+    let s = c .before .before .before .before in
+    let T = rowTable (s .args .rows .now) in
+    let R = s .pre .0 in
+    (omega (arith, R .few), omega (arith, call-size T (R .exact) (R .one) (s .pre .1), row-table-length (s .args .rows .now)))
 
 returns-2 : tie.Need-returns-2
-returns-2 c = search needs
+returns-2 c = λ form. unfold Plans in (c .before .before .before .before .before .pre .1, sym (c .before .before .before .kind-of .ensures) ∙ c .before .if2 .taken, c .end-of2 .ensures)
 
 returns-3 : tie.Need-returns-3
 returns-3 c =
@@ -48,4 +52,4 @@ returns-3 c =
 pub plan-call-spec : {M : Type 1} → statement M
 plan-call-spec =
     tie.close
-    (tie.spec kind-of-requires end-of-requires returns plan-zip-requires returns-2 returns-3)
+    (tie.spec kind-of-requires end-of-requires returns end-of-requires-2 returns-2 returns-3)

@@ -1,105 +1,127 @@
--- Three rows, the function twice, and both halves.
-use mathlib.Core.Path.{_≡_, ap}
+-- By the masked arguments, where they begin and end.
+use mathlib.Core.Path.{_≡_, refl, ap, sym, _∙_, subst}
 use native.Mathlib.Omega.{arith}
-use Prim.Native.Nat.{ℕ}
-use mathlib.Core.List.{List}
+use Prim.Native.Nat.{ℕ, _+_, _*_}
+use mathlib.Core.List.{List, map}
 use lib.ListN.{length}
-use Rattle.layout.specs.Rows.{rowTable}
-use Rattle.layout.proofs.Tables.{row-table-length}
-use mathlib.Core.Bool.{true, false}
-use Rattle.meaning.specs.Terms.{nNo}
+use Rattle.layout.specs.Rows.{typeTable, rowTable}
+use Rattle.meaning.specs.Types.{formOf}
+use Rattle.meaning.specs.Terms.{rowOf, nNo, sizes, grove}
+use Rattle.meaning.specs.Steps.{ready, anyNil}
 use Rattle.reduce.specs.Plan.{rowNo}
-use Rattle.reduce.proofs.Parted.{zip-halves, half-rows}
-use Rattle.reduce.proofs.Filled.{zip-length}
+use Rattle.reduce.specs.Halves.{BoundsAt}
+use Rattle.reduce.proofs.Roots.{some-row}
+use Rattle.reduce.proofs.Given.{call-more}
+use Rattle.reduce.proofs.Zipped.{zip-whole, plan-unready, plan-short, zips-at, plan-zip}
+use Rattle.reduce.proofs.Told.{count-stays, count-leaf, count-zip}
 use borrow.Author.Needs.{needs}
 use Rattle.reduce.proofs.zips.count_zip.Statement.{statement}
 use Rattle.reduce.proofs.zips.count_zip.Tie as tie
-
-row-of-requires : tie.Need-row-of-requires
-row-of-requires c κs = search needs
-
-row-of-requires-2 : tie.Need-row-of-requires-2
-row-of-requires-2 c κs = search needs
-
-cast-n : tie.Need-cast-n
-cast-n c = search needs
-
-count-half-requires : tie.Need-count-half-requires
-count-half-requires c κs =
-    let s = c .before .before .before .before in
-    let T = rowTable (s .args .rows .now) in
-    let R = s .pre .0 in
-    let i : nNo (rowNo T 0) ≡ c .before .before .row-of .result .n = ap (λ (r : List ℕ). nNo r) (c .before .before .row-of .ensures) in
-    let m : nNo (rowNo T 1) ≡ c .before .row-of2 .result .n = ap (λ (r : List ℕ). nNo r) (c .before .row-of2 .ensures) in
-    (R, zip-halves T (s .args .first) _ _ i m (s .pre .1) (omega arith))
-
-count-half-requires-2 : tie.Need-count-half-requires-2
-count-half-requires-2 c κs =
-    let s = c .before .before .before .before .before in
-    let T = rowTable (s .args .rows .now) in
-    let R = s .pre .0 in
-    let i : nNo (rowNo T 0) ≡ c .before .before .before .row-of .result .n = ap (λ (r : List ℕ). nNo r) (c .before .before .before .row-of .ensures) in
-    let m : nNo (rowNo T 1) ≡ c .before .before .row-of2 .result .n = ap (λ (r : List ℕ). nNo r) (c .before .before .row-of2 .ensures) in
-    (R, zip-halves T (s .args .first) _ _ i m (s .pre .1) (omega arith))
-
-sub-result : tie.Need-sub-result
-sub-result c = search needs
-
-add-result : tie.Need-add-result
-add-result c =
-    let s = c .before .before .before .before .before .before in
-    let T = rowTable (s .args .rows .now) in
-    let R = s .pre .0 in
-    omega (arith, s .pre .1 .whole, R .few, row-table-length (s .args .rows .now))
-
-add-result-2 : tie.Need-add-result-2
-add-result-2 c =
-    let s = c .before .before .before .before .before .before in
-    let T = rowTable (s .args .rows .now) in
-    let R = s .pre .0 in
-    omega (arith, s .pre .1 .whole, R .few, row-table-length (s .args .rows .now), c .before .count-half .ensures .1)
-
-sub-result-2 : tie.Need-sub-result-2
-sub-result-2 c = search needs
-
-add-result-3 : tie.Need-add-result-3
-add-result-3 c =
-    let s = c .before .before .before .before .before .before in
-    let T = rowTable (s .args .rows .now) in
-    let R = s .pre .0 in
-    omega (arith, s .pre .1 .whole, R .few, row-table-length (s .args .rows .now), c .before .count-half .ensures .1)
-
-add-result-4 : tie.Need-add-result-4
-add-result-4 c =
-    let s = c .before .before .before .before .before .before in
-    let T = rowTable (s .args .rows .now) in
-    let R = s .pre .0 in
-    omega (arith, s .pre .1 .whole, R .few, row-table-length (s .args .rows .now), c .before .count-half .ensures .1, c .count-half2 .ensures .1)
-
-returns : tie.Need-returns
-returns c =
-    let s = c .before .before .before .before .before .before in
-    let T = rowTable (s .args .rows .now) in
-    let R = s .pre .0 in
-    let i : nNo (rowNo T 0) ≡ c .before .before .before .before .row-of .result .n = ap (λ (r : List ℕ). nNo r) (c .before .before .before .before .row-of .ensures) in
-    let m : nNo (rowNo T 1) ≡ c .before .before .before .row-of2 .result .n = ap (λ (r : List ℕ). nNo r) (c .before .before .before .row-of2 .ensures) in
-    λ form.
-    let first = s .args .first in
-    omega (arith, zip-length form T first (s .pre .1 .behind) (omega (arith, s .pre .1 .whole)), c .before .count-half .ensures .0, c .count-half2 .ensures .0, ap length (half-rows T first _ _ i m form false), ap length (half-rows T first _ _ i m form true))
 
 pub count-zip-spec : {M : Type 1} → statement M
 count-zip-spec =
     tie.close
     (tie.spec
-    row-of-requires
-    row-of-requires-2
-    cast-n
-    count-half-requires
-    count-half-requires-2
-    sub-result
-    add-result
-    add-result-2
-    sub-result-2
-    add-result-3
-    add-result-4
-    returns)
+    -- row-of-requires
+    (λ c κs. let s = c .before in some-row (rowTable (s .args .rows .now)) (s .pre .0 .one))
+    -- row-of-requires-2
+    (λ c κs. let s = c .before .before in call-more (rowTable (s .args .rows .now)) (s .pre .0 .exact) (s .pre .0 .one) (s .pre .1 .0))
+    (λ c. search needs)
+    (λ c. search needs)
+    -- fill-bounds-requires
+    (λ c κs.
+    let s = c .before .before .before .before .before in
+    let T = rowTable (s .args .rows .now) in
+    let L = map rowOf T in
+    let R = s .pre .0 in
+    let first = s .args .first in
+    let (e, q, g) = s .pre .1 in
+    let i : nNo (rowNo T 0) ≡ c .before .before .before .row-of .result .n = ap (λ (r : List ℕ). nNo r) (c .before .before .before .row-of .ensures) in
+    let w : first + sizes (grove L first (c .before .before .before .row-of .result .n)) ≡ length T = ap (λ (x : ℕ). first + sizes (grove L first x)) (sym i) ∙ zip-whole T (R .exact) (R .one) e q first g in
+    (refl, R .few, omega (arith, i, R .args e), omega (arith, w)))
+    (λ c. search needs)
+    -- all-lists-requires
+    (λ c κs.
+    let s = c .before .before .before .before .before .before .before .before in
+    let T = rowTable (s .args .rows .now) in
+    let L = map rowOf T in
+    let R = s .pre .0 in
+    let first = s .args .first in
+    let (e, q, g) = s .pre .1 in
+    let i : nNo (rowNo T 0) ≡ c .before .before .before .before .before .before .row-of .result .n = ap (λ (r : List ℕ). nNo r) (c .before .before .before .before .before .before .row-of .ensures) in
+    let w : first + sizes (grove L first (c .before .before .before .before .before .before .row-of .result .n)) ≡ length T = ap (λ (x : ℕ). first + sizes (grove L first x)) (sym i) ∙ zip-whole T (R .exact) (R .one) e q first g in
+    let f = c .before .before .fill-bounds in
+    let d : BoundsAt T first (c .before .before .before .before .before .before .row-of .result .n) (f .last .1 .1 .1 .0) = record { long = f .kept .1 .1 .1 .0; few = omega (arith, i, R .args e); places = f .ensures } in
+    (d, omega (arith, w)))
+    (λ c. search needs)
+    -- any-nil-requires
+    (λ c κs.
+    let s = c .before .before .before .before .before .before .before .before .before .before .before in
+    let T = rowTable (s .args .rows .now) in
+    let L = map rowOf T in
+    let R = s .pre .0 in
+    let first = s .args .first in
+    let (e, q, g) = s .pre .1 in
+    let i : nNo (rowNo T 0) ≡ c .before .before .before .before .before .before .before .before .before .row-of .result .n = ap (λ (r : List ℕ). nNo r) (c .before .before .before .before .before .before .before .before .before .row-of .ensures) in
+    let w : first + sizes (grove L first (c .before .before .before .before .before .before .before .before .before .row-of .result .n)) ≡ length T = ap (λ (x : ℕ). first + sizes (grove L first x)) (sym i) ∙ zip-whole T (R .exact) (R .one) e q first g in
+    let f = c .before .before .before .before .before .fill-bounds in
+    let d : BoundsAt T first (c .before .before .before .before .before .before .before .before .before .row-of .result .n) (f .last .1 .1 .1 .0) = record { long = f .kept .1 .1 .1 .0; few = omega (arith, i, R .args e); places = f .ensures } in
+    (d, omega (arith, w)))
+    -- returns
+    (λ c.
+    let s = c .before .before .before .before .before .before .before .before .before .before .before .before .before in
+    let T = rowTable (s .args .rows .now) in
+    let L = map rowOf T in
+    let R = s .pre .0 in
+    let first = s .args .first in
+    let (e, q, g) = s .pre .1 in
+    let i : nNo (rowNo T 0) ≡ c .before .before .before .before .before .before .before .before .before .before .before .row-of .result .n = ap (λ (r : List ℕ). nNo r) (c .before .before .before .before .before .before .before .before .before .before .before .row-of .ensures) in
+    let k : nNo (rowNo T 1) ≡ c .before .before .before .before .before .before .before .before .before .before .row-of2 .result .n = ap (λ (r : List ℕ). nNo r) (c .before .before .before .before .before .before .before .before .before .before .row-of2 .ensures) in
+    let w : first + sizes (grove L first (c .before .before .before .before .before .before .before .before .before .before .before .row-of .result .n)) ≡ length T = ap (λ (x : ℕ). first + sizes (grove L first x)) (sym i) ∙ zip-whole T (R .exact) (R .one) e q first g in
+    let r : c .before .before .before .before .all-lists .result ≡ ready (nNo (rowNo T 1)) (grove L first (nNo (rowNo T 0))) = c .before .before .before .before .all-lists .ensures ∙ ap (λ (x : ℕ). ready x (grove L first (c .before .before .before .before .before .before .before .before .before .before .before .row-of .result .n))) (sym k) ∙ ap (λ (x : ℕ). ready (nNo (rowNo T 1)) (grove L first x)) (sym i) in
+    let a : c .before .any-nil .result ≡ anyNil (nNo (rowNo T 1)) (grove L first (nNo (rowNo T 0))) = c .before .any-nil .ensures ∙ ap (λ (x : ℕ). anyNil x (grove L first (c .before .before .before .before .before .before .before .before .before .before .before .row-of .result .n))) (sym k) ∙ ap (λ (x : ℕ). anyNil (nNo (rowNo T 1)) (grove L first x)) (sym i) in
+    λ form. count-leaf form T 12 (plan-short T (R .exact) (R .one) e q first g form (sym (c .before .before .before .if1 .taken) ∙ r) (sym (c .if2 .taken) ∙ a)))
+    (λ c. search needs)
+    -- count-full-requires
+    (λ c κs.
+    let s = c .before .before .before .before .before .before .before .before .before .before .before .before .before .before in
+    let T = rowTable (s .args .rows .now) in
+    let L = map rowOf T in
+    let R = s .pre .0 in
+    let first = s .args .first in
+    let (e, q, g) = s .pre .1 in
+    let i : nNo (rowNo T 0) ≡ c .before .before .before .before .before .before .before .before .before .before .before .before .row-of .result .n = ap (λ (r : List ℕ). nNo r) (c .before .before .before .before .before .before .before .before .before .before .before .before .row-of .ensures) in
+    let k : nNo (rowNo T 1) ≡ c .before .before .before .before .before .before .before .before .before .before .before .row-of2 .result .n = ap (λ (r : List ℕ). nNo r) (c .before .before .before .before .before .before .before .before .before .before .before .row-of2 .ensures) in
+    let w : first + sizes (grove L first (c .before .before .before .before .before .before .before .before .before .before .before .before .row-of .result .n)) ≡ length T = ap (λ (x : ℕ). first + sizes (grove L first x)) (sym i) ∙ zip-whole T (R .exact) (R .one) e q first g in
+    let f = c .before .before .before .before .before .before .before .before .fill-bounds in
+    let d : BoundsAt T first (c .before .before .before .before .before .before .before .before .before .before .before .before .row-of .result .n) (f .last .1 .1 .1 .0) = record { long = f .kept .1 .1 .1 .0; few = omega (arith, i, R .args e); places = f .ensures } in
+    let r : c .before .before .before .before .before .all-lists .result ≡ ready (nNo (rowNo T 1)) (grove L first (nNo (rowNo T 0))) = c .before .before .before .before .before .all-lists .ensures ∙ ap (λ (x : ℕ). ready x (grove L first (c .before .before .before .before .before .before .before .before .before .before .before .before .row-of .result .n))) (sym k) ∙ ap (λ (x : ℕ). ready (nNo (rowNo T 1)) (grove L first x)) (sym i) in
+    let a : c .before .before .any-nil .result ≡ anyNil (nNo (rowNo T 1)) (grove L first (nNo (rowNo T 0))) = c .before .before .any-nil .ensures ∙ ap (λ (x : ℕ). anyNil x (grove L first (c .before .before .before .before .before .before .before .before .before .before .before .before .row-of .result .n))) (sym k) ∙ ap (λ (x : ℕ). anyNil (nNo (rowNo T 1)) (grove L first x)) (sym i) in
+    (R, zips-at T (R .exact) (R .one) e q first g (sym (c .before .before .before .before .if1 .taken) ∙ r) (sym (c .before .if2 .left) ∙ a), subst (λ (x : ℕ). BoundsAt T first x (f .last .1 .1 .1 .0)) (sym i) d))
+    -- returns-2
+    (λ c.
+    let s = c .before .before .before .before .before .before .before .before .before .before .before .before .before .before .before in
+    let T = rowTable (s .args .rows .now) in
+    let L = map rowOf T in
+    let R = s .pre .0 in
+    let first = s .args .first in
+    let (e, q, g) = s .pre .1 in
+    let i : nNo (rowNo T 0) ≡ c .before .before .before .before .before .before .before .before .before .before .before .before .before .row-of .result .n = ap (λ (r : List ℕ). nNo r) (c .before .before .before .before .before .before .before .before .before .before .before .before .before .row-of .ensures) in
+    let k : nNo (rowNo T 1) ≡ c .before .before .before .before .before .before .before .before .before .before .before .before .row-of2 .result .n = ap (λ (r : List ℕ). nNo r) (c .before .before .before .before .before .before .before .before .before .before .before .before .row-of2 .ensures) in
+    let w : first + sizes (grove L first (c .before .before .before .before .before .before .before .before .before .before .before .before .before .row-of .result .n)) ≡ length T = ap (λ (x : ℕ). first + sizes (grove L first x)) (sym i) ∙ zip-whole T (R .exact) (R .one) e q first g in
+    let r : c .before .before .before .before .before .before .all-lists .result ≡ ready (nNo (rowNo T 1)) (grove L first (nNo (rowNo T 0))) = c .before .before .before .before .before .before .all-lists .ensures ∙ ap (λ (x : ℕ). ready x (grove L first (c .before .before .before .before .before .before .before .before .before .before .before .before .before .row-of .result .n))) (sym k) ∙ ap (λ (x : ℕ). ready (nNo (rowNo T 1)) (grove L first x)) (sym i) in
+    let a : c .before .before .before .any-nil .result ≡ anyNil (nNo (rowNo T 1)) (grove L first (nNo (rowNo T 0))) = c .before .before .before .any-nil .ensures ∙ ap (λ (x : ℕ). anyNil x (grove L first (c .before .before .before .before .before .before .before .before .before .before .before .before .before .row-of .result .n))) (sym k) ∙ ap (λ (x : ℕ). anyNil (nNo (rowNo T 1)) (grove L first x)) (sym i) in
+    λ form. count-zip form T first _ (plan-zip T (R .exact) (R .one) e q first g form (sym (c .before .before .before .before .before .if1 .taken) ∙ r) (sym (c .before .before .if2 .left) ∙ a)) (c .count-full .ensures form))
+    -- returns-3
+    (λ c.
+    let s = c .before .before .before .before .before .before .before .before .before .before in
+    let T = rowTable (s .args .rows .now) in
+    let L = map rowOf T in
+    let R = s .pre .0 in
+    let first = s .args .first in
+    let (e, q, g) = s .pre .1 in
+    let i : nNo (rowNo T 0) ≡ c .before .before .before .before .before .before .before .before .row-of .result .n = ap (λ (r : List ℕ). nNo r) (c .before .before .before .before .before .before .before .before .row-of .ensures) in
+    let k : nNo (rowNo T 1) ≡ c .before .before .before .before .before .before .before .row-of2 .result .n = ap (λ (r : List ℕ). nNo r) (c .before .before .before .before .before .before .before .row-of2 .ensures) in
+    let w : first + sizes (grove L first (c .before .before .before .before .before .before .before .before .row-of .result .n)) ≡ length T = ap (λ (x : ℕ). first + sizes (grove L first x)) (sym i) ∙ zip-whole T (R .exact) (R .one) e q first g in
+    let r : c .before .all-lists .result ≡ ready (nNo (rowNo T 1)) (grove L first (nNo (rowNo T 0))) = c .before .all-lists .ensures ∙ ap (λ (x : ℕ). ready x (grove L first (c .before .before .before .before .before .before .before .before .row-of .result .n))) (sym k) ∙ ap (λ (x : ℕ). ready (nNo (rowNo T 1)) (grove L first x)) (sym i) in
+    λ form. count-stays form T (plan-unready T (R .exact) (R .one) e q first g form (sym (c .if1 .left) ∙ r))))

@@ -18,70 +18,70 @@ sub-n c = search needs
 
 write-row-requires : tie.Need-write-row-requires
 write-row-requires c κs =
-    let s = c .before .before .before .before in
+    let s = c .before .before .before .before .before in
     let T = rowTable (s .args .rows .now) in
     let R = s .pre .0 in
     let z = s .args .z in
     let H = halfOf T (z .first) (z .n) (z .mask) (z .tails) in
     let rt = row-table-length (s .args .to .now) in
-    omega (arith, s .pre .3, rt)
+    omega (arith, s .pre .4, rt)
 
 add-copy-rows : tie.Need-add-copy-rows
 add-copy-rows c =
-    let s = c .before .before .before .before .before .before .before .before in
+    let s = c .before .before .before .before .before .before .before .before .before in
     let T = rowTable (s .args .rows .now) in
     let R = s .pre .0 in
     let z = s .args .z in
     let H = halfOf T (z .first) (z .n) (z .mask) (z .tails) in
     let rt = row-table-length (s .args .to .now) in
-    omega (arith, s .pre .3, rt)
+    omega (arith, s .pre .4, rt)
 
 copy-rows-requires : tie.Need-copy-rows-requires
 copy-rows-requires c κs =
-    let s = c .before .before .before .before .before .before .before .before in
+    let s = c .before .before .before .before .before .before .before .before .before in
     let T = rowTable (s .args .rows .now) in
     let R = s .pre .0 in
     let z = s .args .z in
     let H = halfOf T (z .first) (z .n) (z .mask) (z .tails) in
     let rt = row-table-length (s .args .to .now) in
-    (omega (arith, s .pre .3, s .pre .2, rt, c .before .before .before .write-row .kept .0), omega (arith, s .pre .2, s .pre .1 .inside, row-table-length (s .args .rows .now)))
+    (omega (arith, s .pre .4, s .pre .3, rt, c .before .before .before .write-row .kept .0), omega (arith, s .pre .3, s .pre .1 .inside, row-table-length (s .args .rows .now)))
 
 add-write-half : tie.Need-add-write-half
 add-write-half c =
-    let s = c .before .before .before .before .before .before .before .before .before .before .before .before in
+    let s = c .before .before .before .before .before .before .before .before .before .before .before .before .before in
     let T = rowTable (s .args .rows .now) in
     let R = s .pre .0 in
     let z = s .args .z in
     let H = halfOf T (z .first) (z .n) (z .mask) (z .tails) in
     let rt = row-table-length (s .args .to .now) in
-    omega (arith, s .pre .3, rt)
+    omega (arith, s .pre .4, rt)
 
 add-write-half-2 : tie.Need-add-write-half-2
 add-write-half-2 c =
-    let s = c .before .before .before .before .before .before .before .before .before .before .before .before in
+    let s = c .before .before .before .before .before .before .before .before .before .before .before .before .before in
     let T = rowTable (s .args .rows .now) in
     let R = s .pre .0 in
     let z = s .args .z in
     let H = halfOf T (z .first) (z .n) (z .mask) (z .tails) in
     let rt = row-table-length (s .args .to .now) in
-    omega (arith, s .pre .3, s .pre .2, rt)
+    omega (arith, s .pre .4, s .pre .3, rt)
 
 write-half-requires : tie.Need-write-half-requires
 write-half-requires c κs =
-    let s = c .before .before .before .before .before .before .before .before .before .before .before .before in
+    let s = c .before .before .before .before .before .before .before .before .before .before .before .before .before in
     let T = rowTable (s .args .rows .now) in
     let R = s .pre .0 in
     let z = s .args .z in
     let H = halfOf T (z .first) (z .n) (z .mask) (z .tails) in
     let rt = row-table-length (s .args .to .now) in
-    (R, s .pre .1, omega (arith, s .pre .3, same-rows (c .before .before .before .copy-rows .last .0) (s .args .to .now) (c .before .before .before .copy-rows .kept .0 ∙ c .before .before .before .before .before .before .before .write-row .kept .0)))
+    (R, s .pre .1, s .pre .2, omega (arith, s .pre .4, same-rows (c .before .before .before .copy-rows .last .0) (s .args .to .now) (c .before .before .before .copy-rows .kept .0 ∙ c .before .before .before .before .before .before .before .write-row .kept .0)))
 
 same-length : tie.Need-same-length
 same-length c = search needs
 
 returns : tie.Need-returns
 returns c =
-    let s = c .before .before .before .before .before .before .before .before .before .before .before .before .before .before .before in
+    let s = c .before .before .before .before .before .before .before .before .before .before .before .before .before .before .before .before in
     let T = rowTable (s .args .rows .now) in
     let R = s .pre .0 in
     let z = s .args .z in
@@ -89,9 +89,9 @@ returns c =
     let n1 = same-rows (c .before .before .before .before .before .before .before .before .before .before .write-row .last .0) (s .args .to .now) (c .before .before .before .before .before .before .before .before .before .before .write-row .kept .0) in
     let n2 = same-rows (c .before .before .before .before .before .before .copy-rows .last .0) (s .args .to .now) (c .before .before .before .before .before .before .copy-rows .kept .0 ∙ c .before .before .before .before .before .before .before .before .before .before .write-row .kept .0) in
     let w = s .args .start in
-    let i = z .first - s .args .from in (
+    let i = z .first - z .from in (
       omega (arith, c .before .before .write-half .ensures .0),
-      side-filled (rowTable (s .args .to .now)) (rowTable (c .before .before .before .before .before .before .before .before .before .before .write-row .last .0)) (rowTable (c .before .before .before .before .before .before .copy-rows .last .0)) (rowTable (c .before .before .write-half .last .1 .1 .0)) (take w (rowTable (s .args .to .now))) (standing T (s .args .from) (z .first)) H (numbers (s .args .r)) w i (w + 1) (w + 1 + i) (c .before .before .write-half .result) refl (standing-length T (s .args .from) (z .first) (s .pre .2) (omega (arith, s .pre .1 .inside))) refl refl (omega (arith, s .pre .3)) n1 n2 (c .before .before .before .before .before .before .before .before .before .before .write-row .ensures) (c .before .before .before .before .before .before .copy-rows .ensures) (c .before .before .write-half .ensures .1),
+      side-filled (rowTable (s .args .to .now)) (rowTable (c .before .before .before .before .before .before .before .before .before .before .write-row .last .0)) (rowTable (c .before .before .before .before .before .before .copy-rows .last .0)) (rowTable (c .before .before .write-half .last .1 .1 .0)) (take w (rowTable (s .args .to .now))) (standing T (z .from) (z .first)) H (numbers (s .args .r)) w i (w + 1) (w + 1 + i) (c .before .before .write-half .result) refl (standing-length T (z .from) (z .first) (s .pre .3) (omega (arith, s .pre .1 .inside))) refl refl (omega (arith, s .pre .4)) n1 n2 (c .before .before .before .before .before .before .before .before .before .before .write-row .ensures) (c .before .before .before .before .before .before .copy-rows .ensures) (c .before .before .write-half .ensures .1),
     )
 
 pub write-side-spec : {M : Type 1} → statement M
