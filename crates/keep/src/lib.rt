@@ -11,13 +11,6 @@ ghost use Rattle.meaning.specs.Records.{Entry};
 ghost use Rattle.open.specs.Open.{Lists};
 ghost use Rattle.keep.specs.Keep.{RowsRenewed, CallsRenewed};
 
-// Where the header has the counts of rows and of open calls, and the next number.
-const ROW_COUNT_AT: usize = 8;
-
-const CALL_COUNT_AT: usize = 10;
-
-const NEXT_AT: usize = 12;
-
 // The rows of another term stand in the row space: they are counted, and the space behind them is cleared.
 pub fn renew_rows(kept: &mut [u8], m: Limits, rows: usize)
     requires { ⌜ (length (now kept) ≡ recordBytes (board m)) × (rows ≤ m .rows) ⌝ }
@@ -26,7 +19,7 @@ pub fn renew_rows(kept: &mut [u8], m: Limits, rows: usize)
     let end = kept.len();
     let at = layout::rows_at(m) + layout::TERM_ROW * rows;
     layout::clear(kept, at, end);
-    layout::put16_at(kept, ROW_COUNT_AT, rows as u16);
+    layout::put16_at(kept, layout::ROW_COUNT_AT, rows as u16);
 }
 
 // Another open list and next number.
@@ -37,6 +30,6 @@ pub fn renew_calls(kept: &mut [u8], m: Limits, calls: OpenList, next: u32)
     let from = layout::calls_at(m);
     let to = layout::rows_at(m);
     calls.store(&mut kept[from..to]);
-    layout::put16_at(kept, CALL_COUNT_AT, calls.count as u16);
-    layout::put32_at(kept, NEXT_AT, next);
+    layout::put16_at(kept, layout::OPEN_COUNT_AT, calls.count as u16);
+    layout::put32_at(kept, layout::NEXT_AT, next);
 }

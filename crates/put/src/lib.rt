@@ -333,7 +333,7 @@ pub fn write_row(to: &mut [u8], i: usize, r: Row)
     requires { ⌜ 8 * i + 8 ≤ length (now to) ⌝ }
     ensures { λ _. ⌜ rowTable (now (to .exit)) ≡ set (rowTable (now (to .entry))) i (numbers r) ⌝ }
 {
-    let at = 8 * i;
+    let at = layout::TERM_ROW * i;
     to[at] = r.kind;
     to[at + 1] = r.n;
     layout::put16_at(to, at + 2, r.ty);
@@ -345,5 +345,11 @@ pub fn copy_rows(to: &mut [u8], at: usize, rows: &[u8], from: usize, n: usize)
     requires { ⌜ (8 * at + 8 * n ≤ length (now to)) × (8 * from + 8 * n ≤ length (now rows)) ⌝ }
     ensures { λ _. ⌜ rowTable (now (to .exit)) ≡ take at (rowTable (now (to .entry))) ++ (take n (drop from (rowTable (now (rows .entry)))) ++ drop (at + n) (rowTable (now (to .entry)))) ⌝ }
 {
-    layout::copy_to(to, 8 * at, rows, 8 * from, 8 * n);
+    layout::copy_to(
+        to,
+        layout::TERM_ROW * at,
+        rows,
+        layout::TERM_ROW * from,
+        layout::TERM_ROW * n,
+    );
 }

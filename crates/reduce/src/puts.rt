@@ -192,5 +192,5 @@ pub fn write_tie(types: &[u8], rows: &[u8], to: &mut [u8])
             word: 0,
         },
     );
-    write_puts(types, rows, p, &mut to[8..]);
+    write_puts(types, rows, p, &mut to[layout::TERM_ROW..]);
 }

@@ -1,23 +1,75 @@
 -- Everything is passed and the rule at the root stays: the whole stays, and whether it is a value. Assumes nothing.
 use Prim.Native.Nat.{ℕ, _+_, _*_, _-_, _<_, _≤_}
 use mathlib.Core.Path.{_≡_, refl, ap, sym, _∙_, subst}
-use mathlib.Core.Bool.{Bool, true, false}
+use mathlib.Core.Bool.{Bool, true, false, false≢true}
 use mathlib.Core.List.{List, [], _∷_}
 use native.Mathlib.Omega.{arith}
 use lib.ListN.{length, getD}
 use Rattle.meaning.specs.Types.{Form, member}
-use Rattle.meaning.specs.Terms.{Tree, headOf, size, top}
-use Rattle.meaning.specs.Steps.{stay, value, valueKinds, step}
+use Rattle.meaning.specs.Terms.{Head, lit, var, lambda, foreign, apply, future, ite, fix, nil, cons, isnil, zip, tuple, project, lproject, bind, arity, code, Tree, Forest, headOf, size, top}
+use Rattle.meaning.specs.Steps.{stay, value, valueKinds, madeOfValues, contract, step}
 use Rattle.meaning.proofs.Bytes.Records.{size-some}
-use Rattle.search.specs.Frames.{Frame, around, passedRows}
+use Rattle.search.specs.Frames.{Frame, below, around, passedRows}
 use Rattle.search.specs.Kept.{rowCount, kindAt, rowIn, valueEnd}
 use Rattle.search.specs.Search.{Room, Searching}
 use Rattle.search.specs.declared.Stand.{Stand}
 use Rattle.search.proofs.Ends.{root-stays, end-stays}
-use Rattle.search.proofs.Fits.{here-kind, value-end}
+use Rattle.search.proofs.Fits.{here-kind, end-kind, value-end}
 use Rattle.runs.specs.Sites.{Site, at-row, at-end, own, Halted}
 use Rattle.runs.proofs.Tries.{here-fits}
 use Rattle.runs.proofs.EndTries.{end-row, end-below}
+
+-- A ROW THAT IS A VALUE, or that is made of values, has no rule that reduces
+module _ (form : ℕ → Form) (k u : ℕ) where
+  value-stays : (h : Head) (f : Forest (arity h)) → member (code h) valueKinds ≡ true → contract form k h u f ≡ stay
+  unfolding contract code member
+  value-stays (lit l) f e = refl
+  value-stays (var x) f e = refl
+  value-stays lambda f e = refl
+  value-stays (foreign w) f e = refl
+  value-stays (apply n) f e = absurd (false≢true e)
+  value-stays (future j) f e = refl
+  value-stays ite f e = absurd (false≢true e)
+  value-stays fix f e = absurd (false≢true e)
+  value-stays nil f e = refl
+  value-stays cons f e = refl
+  value-stays isnil f e = absurd (false≢true e)
+  value-stays (zip m) f e = refl
+  value-stays (tuple n) f e = refl
+  value-stays (project i) f e = absurd (false≢true e)
+  value-stays (lproject i) f e = absurd (false≢true e)
+  value-stays (bind x) f e = absurd (false≢true e)
+
+  built-stays : (h : Head) (f : Forest (arity h)) → member (code h) madeOfValues ≡ true → contract form k h u f ≡ stay
+  unfolding contract code member
+  built-stays (lit l) f e = refl
+  built-stays (var x) f e = refl
+  built-stays lambda f e = refl
+  built-stays (foreign w) f e = refl
+  built-stays (apply n) f e = absurd (false≢true e)
+  built-stays (future j) f e = refl
+  built-stays ite f e = absurd (false≢true e)
+  built-stays fix f e = absurd (false≢true e)
+  built-stays nil f e = refl
+  built-stays cons f e = refl
+  built-stays isnil f e = absurd (false≢true e)
+  built-stays (zip m) f e = refl
+  built-stays (tuple n) f e = refl
+  built-stays (project i) f e = absurd (false≢true e)
+  built-stays (lproject i) f e = absurd (false≢true e)
+  built-stays (bind x) f e = absurd (false≢true e)
+
+module _ (form : ℕ → Form) (k : ℕ) (left right frames : List ℕ) (s : Stand) where
+  kind-rests : (Fs : List Frame) (ts : List Tree) (old : Tree) (outer : List Frame) (rest : List Tree) → Site true Fs ts old outer rest → Searching form k left right frames s Fs ts → member (kindAt right (s .r)) valueKinds ≡ true → own form k old ≡ stay
+  unfolding own headOf
+  kind-rests Fs ts old outer rest (at-row {h = h} {u = u} {f = f} o w) x e =
+      value-stays form k u h f (ap (λ (i : ℕ). member i valueKinds) (sym (here-kind right (s .r) old rest (x .coming))) ∙ e)
+
+  frame-rests : (Fs : List Frame) (ts : List Tree) (old : Tree) (outer : List Frame) (rest : List Tree) → Site false Fs ts old outer rest → Searching form k left right frames s Fs ts
+      → member (kindAt left (rowIn (getD frames (s .d - 1) 0))) madeOfValues ≡ true → own form k old ≡ stay
+  unfolding own
+  frame-rests Fs ts old outer rest (at-end {F = F} n) x e =
+      built-stays form k (F .type) (F .head) (below F ts) (ap (λ (i : ℕ). member i madeOfValues) (sym (end-kind form k left right frames s F outer ts x)) ∙ e)
 
 module _ (form : ℕ → Form) (k : ℕ) (left right frames : List ℕ) (s : Stand) where
   abbrev Told : Bool → Tree → Type 0
@@ -49,6 +101,13 @@ module _ (form : ℕ → Form) (k : ℕ) (left right frames : List ℕ) (s : Sta
     rests-last b e g =
         subst (Told (valueEnd left frames (s .d - 1))) (h .all .whole)
         (at-the-end (h .all .framesAround) (h .all .trees) (h .tree) (h .outer) (h .rest) (subst (λ (x : Bool). Site x (h .all .framesAround) (h .all .trees) (h .tree) (h .outer) (h .rest)) b (h .site)) (h .all .search) e g)
+
+    -- a rule that need not be tried
+    pub value-rests : s .here ≡ true → member (kindAt right (s .r)) valueKinds ≡ true → own form k (h .tree) ≡ stay
+    value-rests b e = kind-rests form k left right frames s (h .all .framesAround) (h .all .trees) (h .tree) (h .outer) (h .rest) (subst (λ (x : Bool). Site x (h .all .framesAround) (h .all .trees) (h .tree) (h .outer) (h .rest)) b (h .site)) (h .all .search) e
+
+    pub built-rests : s .here ≡ false → member (kindAt left (rowIn (getD frames (s .d - 1) 0))) madeOfValues ≡ true → own form k (h .tree) ≡ stay
+    built-rests b e = frame-rests form k left right frames s (h .all .framesAround) (h .all .trees) (h .tree) (h .outer) (h .rest) (subst (λ (x : Bool). Site x (h .all .framesAround) (h .all .trees) (h .tree) (h .outer) (h .rest)) b (h .site)) (h .all .search) e
 
     -- what is read there is there
     pub row-there : s .here ≡ true → Room left right frames s → 8 * s .r < length right

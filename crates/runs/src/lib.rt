@@ -28,6 +28,28 @@ ghost use Rattle.meaning.specs.declared.Run.the-variants.{Ran};
 ghost use Rattle.runs.specs.Sites.{Halted, own};
 ghost use Rattle.meaning.specs.Steps.{stay};
 
+// Where the fields of a term row stand behind its kind and n.
+const ROW_TYPE: usize = 2;
+
+const ROW_WORD: usize = 4;
+
+// Where the fields of a letter's header stand.
+const NUMBER_AT: usize = 0;
+
+const TOOL_AT: usize = 4;
+
+const COUNT_AT: usize = 8;
+
+const TYPE_AT: usize = 10;
+
+// Of a call's rows: the tool's number in the second, and where the arguments begin.
+const TOOL_WORD: usize = 12;
+
+const ARGUMENTS: usize = 16;
+
+// A letter has so many bytes less than the rows of its call.
+const LETTER_LESS: usize = 4;
+
 // What a rule that is tried tells: it stays; it goes, with the rows that give way and the new rows; it sends, with the rows of its tree. A tree that
 // stands already, behind some rows of the one that reduces, has no new rows.
 pub enum Tried {
@@ -45,7 +67,7 @@ fn begin(kept: &[u8], work: &mut [u8], m: Limits) -> Stand
     let e = layout::term_rows(work);
     let r = e - n;
     let from = layout::rows_at(m);
-    layout::copy_to(work, 8 * r, kept, from, 8 * n);
+    layout::copy_to(work, layout::TERM_ROW * r, kept, from, layout::TERM_ROW * n);
     Stand {
         l: 0,
         r: r,
@@ -62,8 +84,8 @@ fn put_back(kept: &mut [u8], work: &[u8], m: Limits, s: Stand)
     let l = s.l;
     let r = s.r;
     let n = layout::term_rows(work) - r;
-    let at = layout::rows_at(m) + 8 * l;
-    layout::copy_to(kept, at, work, 8 * r, 8 * n);
+    let at = layout::rows_at(m) + layout::TERM_ROW * l;
+    layout::copy_to(kept, at, work, layout::TERM_ROW * r, layout::TERM_ROW * n);
     keep::renew_rows(kept, m, l + n);
 }
 
@@ -83,11 +105,11 @@ fn write_letter(call: &[u8], work: &mut [u8], next: u32)
     ensures { λ _. ⌜ now (work .exit) ≡ letterFrom next (now (call .entry)) ++ drop (length (now (call .entry)) - 4) (now (work .entry)) ⌝ }
 {
     let n = call.len();
-    layout::put32_at(work, 0, next);
-    layout::put32_at(work, 4, layout::u32_at(call, 12));
-    layout::put16_at(work, 8, (n / 8 - 2) as u16);
-    layout::put16_at(work, 10, layout::u16_at(call, 2));
-    layout::copy_to(work, 12, call, 16, n - 16);
+    layout::put32_at(work, NUMBER_AT, next);
+    layout::put32_at(work, TOOL_AT, layout::u32_at(call, TOOL_WORD));
+    layout::put16_at(work, COUNT_AT, (n / layout::TERM_ROW - 2) as u16);
+    layout::put16_at(work, TYPE_AT, layout::u16_at(call, ROW_TYPE));
+    layout::copy_to(work, layout::CALL_HEAD, call, ARGUMENTS, n - ARGUMENTS);
 }
 
 // The future of a call comes to stand before row r, in the place of the call.
@@ -95,11 +117,11 @@ fn put_future(work: &mut [u8], r: usize, ty: u16, next: u32)
     requires { ⌜ (0 < r) × (8 * r ≤ length (now work)) ⌝ }
     ensures { λ _. ⌜ now (work .exit) ≡ take (8 * (r - 1)) (now (work .entry)) ++ (write termRow (9 ∷ 0 ∷ ty ∷ next ∷ []) ++ drop (8 * (r - 1) + 8) (now (work .entry))) ⌝ }
 {
-    let at = 8 * (r - 1);
+    let at = layout::TERM_ROW * (r - 1);
     work[at] = 9;
     work[at + 1] = 0;
-    layout::put16_at(work, at + 2, ty);
-    layout::put32_at(work, at + 4, next);
+    layout::put16_at(work, at + ROW_TYPE, ty);
+    layout::put32_at(work, at + ROW_WORD, next);
 }
 
 // The search goes on in the record's row space until it stops.
@@ -142,9 +164,9 @@ fn call_type(kept: &[u8], m: Limits, s: Stand, old: usize) -> u16
 {
     let l = s.l;
     let at = layout::rows_at(m);
-    let p = at + 8 * (l - old);
-    let q = p + 8 * old;
-    layout::u16_at(&kept[p..q], 2)
+    let p = at + layout::TERM_ROW * (l - old);
+    let q = p + layout::TERM_ROW * old;
+    layout::u16_at(&kept[p..q], ROW_TYPE)
 }
 
 // The call at the end of the rows passed goes out: its future comes to stand in its place, its letter at the front of the work buffer.
@@ -169,8 +191,8 @@ fn call_out(kept: &[u8], work: &mut [u8], frames: &[u32], m: Limits, s: Stand, o
             here: false,
         },
     );
-    let p = at + 8 * (l - old);
-    let q = p + 8 * old;
+    let p = at + layout::TERM_ROW * (l - old);
+    let q = p + layout::TERM_ROW * old;
     write_letter(&kept[p..q], work, next);
     e
 }
@@ -180,7 +202,7 @@ fn types_end(kept: &[u8]) -> usize
     requires { ⌜ 20 ≤ length (now kept) ⌝ }
     ensures { λ e. ⌜ e ≡ 20 + 36 * typeCount (now (kept .entry)) ⌝ }
 {
-    20 + 36 * layout::wide(sound::head::type_count(kept))
+    layout::RECORD_HEAD + layout::TYPE_ROW * layout::wide(sound::head::type_count(kept))
 }
 
 // The rule of the tree at the search is tried on all its rows.
@@ -189,24 +211,27 @@ fn try_whole(kept: &[u8], work: &[u8], s: Stand) -> Tried
     ensures { λ x. ⌜ ((left : List ℕ) (frames : List ℕ) → Tries (formOf (typesIn (now (kept .entry)))) left (now (work .entry)) frames s x) ⌝ }
 {
     let r = s.r;
-    let n = terms::end_of(&work[8 * r..], 0);
+    let n = terms::end_of(&work[layout::TERM_ROW * r..], 0);
     let e = types_end(kept);
-    let a = 8 * r;
-    let b = a + 8 * n;
-    let o = reduce::count(&kept[20..e], &work[a..b]);
+    let a = layout::TERM_ROW * r;
+    let b = a + layout::TERM_ROW * n;
+    let o = reduce::count(&kept[layout::RECORD_HEAD..e], &work[a..b]);
     match o {
         Outcome::Stays => Tried::Stays,
         Outcome::Goes(new) => Tried::Goes(n, new),
     }
 }
 
-// The rule of the tree at the search is tried: it may make the end of that tree, which stands already.
+// The rule of the tree at the search is tried: that of a value stays, and another may make the end of its tree, which stands already.
 fn try_here(kept: &[u8], work: &[u8], s: Stand) -> Tried
     requires { ⌜ (20 + 36 * typeCount (now kept) ≤ length (now kept)) × (rowCount (now work) ≤ 4096) × (s .here ≡ true) × ((left : List ℕ) × (frames : List ℕ) × Trying (formOf (typesIn (now kept))) left (now work) frames s × Room left (now work) frames s × (rowCount (now work) - s .r ≤ 2048)) ⌝ }
     ensures { λ x. ⌜ ((left : List ℕ) (frames : List ℕ) → Tries (formOf (typesIn (now (kept .entry)))) left (now (work .entry)) frames s x) ⌝ }
 {
     let r = s.r;
-    let k = reduce::behind::rows_before(&work[8 * r..]);
+    if search::plain(work[layout::TERM_ROW * r]) {
+        return Tried::Stays;
+    }
+    let k = reduce::behind::rows_before(&work[layout::TERM_ROW * r..]);
     if 0 < k {
         return Tried::Goes(k, 0);
     }
@@ -221,12 +246,12 @@ fn make_here(kept: &mut [u8], work: &mut [u8], m: Limits, s: Stand, old: usize, 
     let l = s.l;
     let r = s.r;
     let e = types_end(kept);
-    let p = layout::rows_at(m) + 8 * l;
-    let q = p + 8 * old;
-    layout::copy_to(kept, p, work, 8 * r, 8 * old);
-    let a = 8 * (r + old - new);
-    let b = a + 8 * new;
-    reduce::reduce(&kept[20..e], &kept[p..q], &mut work[a..b]);
+    let p = layout::rows_at(m) + layout::TERM_ROW * l;
+    let q = p + layout::TERM_ROW * old;
+    layout::copy_to(kept, p, work, layout::TERM_ROW * r, layout::TERM_ROW * old);
+    let a = layout::TERM_ROW * (r + old - new);
+    let b = a + layout::TERM_ROW * new;
+    reduce::reduce(&kept[layout::RECORD_HEAD..e], &kept[p..q], &mut work[a..b]);
     Stand {
         l: l,
         r: r + old - new,
@@ -241,16 +266,17 @@ fn is_call(rows: &[u8]) -> bool
     ensures { λ b. ⌜ b ≡ callBy (now (rows .entry)) ⌝ }
 {
     if rows[0] == 8 {
-        if 8 < rows.len() {
-            return rows[8] == 7;
+        if layout::TERM_ROW < rows.len() {
+            return rows[layout::TERM_ROW] == 7;
         }
         return false;
     }
     false
 }
 
-// The rule of the frame whose trees are passed is tried: it comes last. A call is sent if all its arguments are values, as the frame's flag tells.
-fn try_end(kept: &[u8], frames: &[u32], m: Limits, s: Stand) -> Tried
+// The rule of the frame whose trees are passed is tried on all its rows: it comes last. A call is sent if all its arguments are values, as the frame's
+// flag tells.
+fn try_last(kept: &[u8], frames: &[u32], m: Limits, s: Stand) -> Tried
     requires { ⌜ (length (now kept) ≡ recordBytes (board m)) × (typeCount (now kept) ≤ m .types) × (s .here ≡ false) × (m .rows ≤ 2048) × (s .l ≤ m .rows) × ((work : List ℕ) × Trying (formOf (typesIn (now kept))) (space (board m) (now kept)) work (now frames) s × Room (space (board m) (now kept)) work (now frames) s) ⌝ }
     ensures { λ x. ⌜ ((work : List ℕ) → Tries (formOf (typesIn (now (kept .entry)))) (space (board m) (now (kept .entry))) work (now (frames .entry)) s x) ⌝ }
 {
@@ -259,8 +285,8 @@ fn try_end(kept: &[u8], frames: &[u32], m: Limits, s: Stand) -> Tried
     let f = frames[d - 1];
     let i = search::row_in(f);
     let n = l - i;
-    let p = layout::rows_at(m) + 8 * i;
-    let q = p + 8 * n;
+    let p = layout::rows_at(m) + layout::TERM_ROW * i;
+    let q = p + layout::TERM_ROW * n;
     if is_call(&kept[p..q]) {
         if search::flag_in(f) {
             return Tried::Sends(n);
@@ -268,11 +294,24 @@ fn try_end(kept: &[u8], frames: &[u32], m: Limits, s: Stand) -> Tried
         return Tried::Stays;
     }
     let e = types_end(kept);
-    let o = reduce::count(&kept[20..e], &kept[p..q]);
+    let o = reduce::count(&kept[layout::RECORD_HEAD..e], &kept[p..q]);
     match o {
         Outcome::Stays => Tried::Stays,
         Outcome::Goes(new) => Tried::Goes(n, new),
     }
+}
+
+// The rule of the frame whose trees are passed is tried: that of one that is made of values stays.
+fn try_end(kept: &[u8], frames: &[u32], m: Limits, s: Stand) -> Tried
+    requires { ⌜ (length (now kept) ≡ recordBytes (board m)) × (typeCount (now kept) ≤ m .types) × (s .here ≡ false) × (m .rows ≤ 2048) × (s .l ≤ m .rows) × ((work : List ℕ) × Trying (formOf (typesIn (now kept))) (space (board m) (now kept)) work (now frames) s × Room (space (board m) (now kept)) work (now frames) s) ⌝ }
+    ensures { λ x. ⌜ ((work : List ℕ) → Tries (formOf (typesIn (now (kept .entry)))) (space (board m) (now (kept .entry))) work (now (frames .entry)) s x) ⌝ }
+{
+    let d = s.d;
+    let at = layout::rows_at(m);
+    if search::builds(&kept[at..], frames, d - 1) {
+        return Tried::Stays;
+    }
+    try_last(kept, frames, m, s)
 }
 
 // A tree of old rows at the end of the rows passed becomes one of new rows, before the rows to come.
@@ -283,11 +322,11 @@ fn make_end(kept: &[u8], work: &mut [u8], m: Limits, s: Stand, old: usize, new: 
     let l = s.l;
     let r = s.r;
     let e = types_end(kept);
-    let p = layout::rows_at(m) + 8 * (l - old);
-    let q = p + 8 * old;
-    let a = 8 * (r - new);
-    let b = a + 8 * new;
-    reduce::reduce(&kept[20..e], &kept[p..q], &mut work[a..b]);
+    let p = layout::rows_at(m) + layout::TERM_ROW * (l - old);
+    let q = p + layout::TERM_ROW * old;
+    let a = layout::TERM_ROW * (r - new);
+    let b = a + layout::TERM_ROW * new;
+    reduce::reduce(&kept[layout::RECORD_HEAD..e], &kept[p..q], &mut work[a..b]);
     Stand {
         l: l - old,
         r: r - new,
@@ -417,7 +456,7 @@ fn value_at(kept: &[u8], work: &[u8], frames: &[u32], m: Limits, s: Stand) -> bo
     let here = s.here;
     if here {
         let r = s.r;
-        return search::plain(work[8 * r]);
+        return search::plain(work[layout::TERM_ROW * r]);
     }
     let at = layout::rows_at(m);
     let d = s.d;
@@ -446,7 +485,7 @@ fn send(kept: &mut [u8], work: &mut [u8], frames: &[u32], m: Limits, s: Stand, o
     put_back(kept, work, m, e);
     keep::renew_calls(kept, m, list.with(next, ty), next + 1);
     let end = work.len();
-    layout::clear(work, 8 * old - 4, end);
+    layout::clear(work, layout::TERM_ROW * old - LETTER_LESS, end);
 }
 
 // How many rows there is room for in the place of a tree of old rows.

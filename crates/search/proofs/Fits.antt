@@ -121,6 +121,9 @@ module _ (form : ℕ → Form) (k : ℕ) (left right frames : List ℕ) (s : Sta
   unfolding Held
   flag-of d i F Fs e h = (rw e at h) .0 .flag
 
+  pub end-kind : (F : Frame) (Fs : List Frame) (ts : List Tree) → Searching form k left right frames s (F ∷ Fs) ts → kindAt left (rowIn (getD frames (s .d - 1) 0)) ≡ code (F .head)
+  end-kind F Fs ts x = frame-kind left frames (s .l) (s .d) (s .d - 1) F Fs (some-frame form k left right frames s F Fs (s .d) (x .kept .held)) (x .kept)
+
   pub value-end : (F : Frame) (Fs : List Frame) (ts : List Tree) → Searching form k left right frames s (F ∷ Fs) ts → (member (code (F .head)) madeOfValues ∧ᵇ F .clear) ≡ valueEnd left frames (s .d - 1)
   unfolding valueEnd
   value-end F Fs ts x =

@@ -8,7 +8,7 @@ ghost use Rattle.meaning.specs.Types.{member};
 ghost use Rattle.meaning.specs.Terms.{size, arity, rowOf};
 ghost use Rattle.meaning.specs.Steps.{_∨ᵇ_, valueKinds, madeOfValues};
 ghost use Rattle.search.specs.Kinds.{waitsBy, looksBy};
-ghost use Rattle.search.specs.Kept.{rowCount, rowIn, owedIn, flagIn, enteredNumber, passedNumber, treeHere, firstKind, wants, fitsHere, valueEnd, fitsEnd, Enters, Passes, Leaves};
+ghost use Rattle.search.specs.Kept.{rowCount, kindAt, rowIn, owedIn, flagIn, enteredNumber, passedNumber, treeHere, firstKind, wants, fitsHere, valueEnd, fitsEnd, Enters, Passes, Leaves};
 ghost use Rattle.search.specs.Search.{nextKind, lookedBy, Room, Somewhere, Sees, Stops, Resumes};
 
 // What a search sees where it stands.
@@ -146,7 +146,13 @@ fn enter(left: &mut [u8], right: &[u8], frames: &mut [u32], s: Stand) -> Stand
     let r = s.r;
     let d = s.d;
     let n = terms::children(layout::row_at(right, r));
-    layout::copy_to(left, 8 * l, right, 8 * r, 8);
+    layout::copy_to(
+        left,
+        layout::TERM_ROW * l,
+        right,
+        layout::TERM_ROW * r,
+        layout::TERM_ROW,
+    );
     frames[d] = entered_number(l, n);
     Stand {
         l: l + 1,
@@ -164,8 +170,14 @@ fn pass(left: &mut [u8], right: &[u8], frames: &mut [u32], s: Stand, fine: bool)
     let l = s.l;
     let r = s.r;
     let d = s.d;
-    let n = terms::end_of(&right[8 * r..], 0);
-    layout::copy_to(left, 8 * l, right, 8 * r, 8 * n);
+    let n = terms::end_of(&right[layout::TERM_ROW * r..], 0);
+    layout::copy_to(
+        left,
+        layout::TERM_ROW * l,
+        right,
+        layout::TERM_ROW * r,
+        layout::TERM_ROW * n,
+    );
     let i = d - 1;
     frames[i] = passed_number(frames[i], fine);
     Stand {
@@ -181,9 +193,9 @@ fn waits_at(right: &[u8], r: usize) -> bool
     requires { ⌜ (r < rowCount (now right)) × (rowCount (now right) ≤ 4096) ⌝ }
     ensures { λ b. ⌜ b ≡ waitsBy (getD (now (right .entry)) (8 * r) 0) (nextKind (now (right .entry)) r) ⌝ }
 {
-    let k = right[8 * r];
-    if r + 1 < right.len() / 8 {
-        return waits(k, right[8 * r + 8]);
+    let k = right[layout::TERM_ROW * r];
+    if r + 1 < right.len() / layout::TERM_ROW {
+        return waits(k, right[layout::TERM_ROW * r + layout::TERM_ROW]);
     }
     waits(k, 0)
 }
@@ -196,11 +208,17 @@ fn looked_at(left: &[u8], at: usize, right: &[u8], r: usize, o: usize) -> bool
     let f = layout::row_at(left, at);
     let k = f.kind;
     let a = terms::children(f);
-    let t = right[8 * r];
+    let t = right[layout::TERM_ROW * r];
     if a == o {
-        return looks(k, 0, t, right[8 * r + 1], t);
+        return looks(k, 0, t, right[layout::TERM_ROW * r + 1], t);
     }
-    looks(k, a - o, left[8 * at + 8], left[8 * at + 9], t)
+    looks(
+        k,
+        a - o,
+        left[layout::TERM_ROW * at + layout::TERM_ROW],
+        left[layout::TERM_ROW * at + 9],
+        t,
+    )
 }
 
 // What is in sight of a search.
@@ -319,7 +337,7 @@ fn first_kind(left: &[u8], l: usize, at: usize, k: u8) -> u8
     ensures { λ c. ⌜ c ≡ firstKind (now (left .entry)) l at k ⌝ }
 {
     if at + 1 < l {
-        return left[8 * (at + 1)];
+        return left[layout::TERM_ROW * (at + 1)];
     }
     k
 }
@@ -332,9 +350,9 @@ fn fits_here(left: &[u8], right: &[u8], frames: &[u32], s: Stand) -> bool
     let r = s.r;
     let d = s.d;
     let at = row_in(frames[d - 1]);
-    let k = right[8 * r];
+    let k = right[layout::TERM_ROW * r];
     let c = first_kind(left, s.l, at, k);
-    if wants_values(left[8 * at], c) {
+    if wants_values(left[layout::TERM_ROW * at], c) {
         return plain(k);
     }
     false
@@ -349,15 +367,22 @@ pub fn pass_by(left: &mut [u8], right: &[u8], frames: &mut [u32], s: Stand) -> S
     pass(left, right, frames, s, fine)
 }
 
+// Whether frame i is of a kind that is made of values: its own rule stays.
+pub fn builds(left: &[u8], frames: &[u32], i: usize) -> bool
+    requires { ⌜ (i < length (now frames)) × (i ≤ 4096) × (8 * rowIn (getD (now frames) i 0) + 8 ≤ length (now left)) ⌝ }
+    ensures { λ b. ⌜ b ≡ member (kindAt (now (left .entry)) (rowIn (getD (now (frames .entry)) i 0))) madeOfValues ⌝ }
+{
+    let at = row_in(frames[i]);
+    made_of_values(left[layout::TERM_ROW * at])
+}
+
 // Whether the tree of frame i, all of whose trees are passed, is a value where its own rule stays.
 pub fn value_end(left: &[u8], frames: &[u32], i: usize) -> bool
     requires { ⌜ (i < length (now frames)) × (i ≤ 4096) × (8 * rowIn (getD (now frames) i 0) + 8 ≤ length (now left)) ⌝ }
     ensures { λ b. ⌜ b ≡ valueEnd (now (left .entry)) (now (frames .entry)) i ⌝ }
 {
-    let x = frames[i];
-    let at = row_in(x);
-    if made_of_values(left[8 * at]) {
-        return flag_in(x);
+    if builds(left, frames, i) {
+        return flag_in(frames[i]);
     }
     false
 }
@@ -369,7 +394,10 @@ fn fits_end(left: &[u8], frames: &[u32], s: Stand) -> bool
 {
     let d = s.d;
     let at = row_in(frames[d - 2]);
-    if wants_values(left[8 * at], left[8 * (at + 1)]) {
+    if wants_values(
+        left[layout::TERM_ROW * at],
+        left[layout::TERM_ROW * (at + 1)],
+    ) {
         return value_end(left, frames, d - 1);
     }
     false
@@ -405,7 +433,13 @@ pub fn back_up(left: &[u8], right: &mut [u8], frames: &[u32], s: Stand) -> Stand
     }
     let at = row_in(frames[d - 1]);
     if at + 1 == l {
-        layout::copy_to(right, 8 * (r - 1), left, 8 * (l - 1), 8);
+        layout::copy_to(
+            right,
+            layout::TERM_ROW * (r - 1),
+            left,
+            layout::TERM_ROW * (l - 1),
+            layout::TERM_ROW,
+        );
         return Stand {
             l: l - 1,
             r: r - 1,

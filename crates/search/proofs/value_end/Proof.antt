@@ -10,14 +10,11 @@ pub value-end-spec : {M : Type 1} → statement M
 value-end-spec =
     tie.close
     (tie.spec
-    (λ c. search needs)
-    (λ c. search needs)
     (λ c κs. search needs)
     (λ c. search needs)
     (λ c. search needs)
-    (λ c κs. search needs)
     (λ c κs. search needs)
     -- returns
-    (λ c. unfold valueEnd _∧ᵇ_ in rw (sym (c .before .before .before .before .row-in .ensures), sym (c .before .before .made-of-values .ensures), c .before .if1 .taken) (c .flag-in .ensures))
+    (λ c. unfold valueEnd _∧ᵇ_ in rw (sym (c .before .before .before .builds .ensures), c .before .before .if1 .taken) (c .flag-in .ensures))
     -- returns-2
-    (λ c. unfold valueEnd _∧ᵇ_ in rw (sym (c .before .before .before .row-in .ensures), sym (c .before .made-of-values .ensures), c .if1 .left) refl))
+    (λ c. unfold valueEnd _∧ᵇ_ in rw (sym (c .before .builds .ensures), c .if1 .left) refl))
