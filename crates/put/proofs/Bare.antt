@@ -2,17 +2,18 @@
 use Prim.Native.Nat.{ℕ, zero, suc, _+_, _*_, _-_, _≤_, _<_, _/_, _%_}
 use mathlib.Core.Path.{_≡_, refl, ap, sym, _∙_}
 use mathlib.Core.Bool.{Bool, true, false, cond, not, false≢true}
+use mathlib.Core.Option.{Option, none, some}
 use mathlib.Core.List.{List, [], _∷_, _++_, append-assoc, append-nil}
 use native.Mathlib.Omega.{arith}
 use lib.Dec.{eqb}
 use lib.ListN.{length, getD, take, drop, replicate, length-append, length-drop, length-replicate}
 use lib.Seq.{take-at, drop-at, length-take-le, take-add, drop-drop}
-use borrow.Author.Tests.{eqb-true}
+use borrow.Author.Tests.{eqb-true, eqb-false, ne-eqb}
 use Rattle.meaning.specs.Types.{Form, low, rest}
 use Rattle.meaning.specs.Terms.{arity, code, headFrom, Row}
 use Rattle.meaning.specs.Steps.{_∨ᵇ_}
-use Rattle.put.specs.Put.{mark, fan, atPlace, binds, inner, after, standing, below, Descends, Bare, firstRow, endRow, chosen}
-use Rattle.put.proofs.Turning.{binds-none}
+use Rattle.put.specs.Put.{next, pick, told, mark, fan, atPlace, binds, inner, after, standing, below, Descends, Bare, firstRow, endRow, chosen}
+use Rattle.put.proofs.Turning.{binds-none, binds-let}
 use Rattle.put.proofs.Loops.{standing-length}
 
 -- NO MASK: nothing is hidden in any tree
@@ -52,6 +53,27 @@ unmarked n e = by (eqb n 0) refl e
 -- a row that is no binder hides nothing
 pub bare-other : (form : ℕ → Form) (names : List ℕ) (k n w ty : ℕ) → (k ≡ 6 → ⊥) → (k ≡ 19 → ⊥) → mark (binds form (headFrom k n w) ty) names 0 ≡ 0
 bare-other form names k n w ty p q = mark-none (binds form (headFrom k n w) ty) (λ y. binds-none form k n w ty y p q) names
+
+-- nor does a let whose name is none of them
+next-none : (o : Option ℕ) → told (next o) ≡ false → told o ≡ false
+unfolding told next
+next-none none e = refl
+next-none (some j) e = e
+
+unpicked : (ys : List ℕ) (w : ℕ) (b : ℕ → Bool) → ((y : ℕ) → b y ≡ eqb y w) → told (pick ys 0 w) ≡ false → mark b ys 0 ≡ 0
+unfolding pick mark told low rest _∨ᵇ_
+unpicked [] w b e q = refl
+unpicked (y ∷ ys) w b e q = by (eqb w y) refl (unpicked ys w b e) q
+  where
+    by : (c : Bool) → eqb w y ≡ c → (told (pick ys 0 w) ≡ false → mark b ys 0 ≡ 0) → told (cond c (some 0) (next (pick ys 0 w))) ≡ false → mark b (y ∷ ys) 0 ≡ 0
+    by true p ih q = absurd (false≢true (sym q))
+    by false p ih q =
+        let z : mark b ys 0 ≡ 0 = ih (next-none (pick ys 0 w) q) in
+        let n : b y ≡ false = e y ∙ ne-eqb y w (λ r. eqb-false w y p (sym r)) in
+        rw (n, z) refl
+
+pub bare-let : (form : ℕ → Form) (names : List ℕ) (k n w ty : ℕ) → k ≡ 19 → told (pick names 0 w) ≡ false → mark (binds form (headFrom k n w) ty) names 0 ≡ 0
+bare-let form names k n w ty e q = unpicked names w (binds form (headFrom k n w) ty) (λ y. binds-let form k n w ty y e) q
 
 module _ (form : ℕ → Form) (names : List ℕ) (r : Row) (b : Bare form names r) where
   inner-none : (i : ℕ) → inner form names (r .head) (r .type) 0 i ≡ 0

@@ -165,6 +165,22 @@ fn descend(types: &[u8], names: &[u16], r: Row, masks: &mut [u8], owed: usize) -
     n
 }
 
+// Whether x is one of the names.
+fn is_name(names: &[u16], x: u32) -> bool
+    requires { ⌜ length (now names) ≤ 8 ⌝ }
+    ensures { λ b. ⌜ b ≡ told (pick (now (names .entry)) 0 x) ⌝ }
+{
+    let f = place_of(names, 0, x);
+    match f {
+        Found::At(j) => {
+            return true;
+        }
+        Found::Nothing => {
+            return false;
+        }
+    }
+}
+
 // Whether a row hides one of the names in its last tree.
 fn hides_some(types: &[u8], names: &[u16], r: Row) -> bool
     requires { ⌜ length (now names) ≤ 8 ⌝ }
@@ -175,7 +191,7 @@ fn hides_some(types: &[u8], names: &[u16], r: Row) -> bool
         return marked(types, names, r, 0) != 0;
     }
     if k == 19 {
-        return marked(types, names, r, 0) != 0;
+        return is_name(names, r.word);
     }
     false
 }

@@ -4,7 +4,7 @@ use native.Mathlib.Omega.{arith}
 use Rattle.layout.specs.Rows.{typeTable}
 use Rattle.meaning.specs.Types.{formOf}
 use Rattle.meaning.specs.Terms.{rowOf}
-use Rattle.put.proofs.Bare.{unmarked, bare-other}
+use Rattle.put.proofs.Bare.{unmarked, bare-other, bare-let}
 use borrow.Author.Needs.{needs}
 use Rattle.put.proofs.hides_some.Statement.{statement}
 use Rattle.put.proofs.hides_some.Tie as tie
@@ -16,7 +16,10 @@ hides-some-spec =
     (λ c κs. search needs)
     (λ c. λ q. sym (c .marked .ensures) ∙ unmarked (c .marked .result) q)
     (λ c κs. search needs)
-    (λ c. λ q. sym (c .marked2 .ensures) ∙ unmarked (c .marked2 .result) q)
+    -- returns-2
+    (λ c. unfold rowOf in (
+    let a = c .before .before .before .before .before .args in
+    λ q. bare-let (formOf (typeTable (a .types .now))) (a .names .now) (a .r .kind) (a .r .n) (a .r .word) (a .r .ty) (c .before .if2 .taken) (sym (c .is-name .ensures) ∙ q)))
     -- returns-3
     (λ c. unfold rowOf in (
     let a = c .before .before .before .before .args in
