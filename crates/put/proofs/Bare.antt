@@ -1,12 +1,12 @@
 -- A pass over rows that hide none of the names: no tree owed has a mask, and rows that stand side by side are written at once. Assumes nothing.
-use Prim.Native.Nat.{ℕ, zero, suc, _+_, _*_, _-_, _≤_, _<_, _/_, _%_}
+use Prim.Native.Nat.{ℕ, zero, suc, _+_, _-_, _≤_}
 use mathlib.Core.Path.{_≡_, refl, ap, sym, _∙_}
 use mathlib.Core.Bool.{Bool, true, false, cond, not, false≢true}
 use mathlib.Core.Option.{Option, none, some}
-use mathlib.Core.List.{List, [], _∷_, _++_, append-assoc, append-nil}
+use mathlib.Core.List.{List, [], _∷_, _++_, append-assoc}
 use native.Mathlib.Omega.{arith}
 use lib.Dec.{eqb}
-use lib.ListN.{length, getD, take, drop, replicate, length-append, length-drop, length-replicate}
+use lib.ListN.{length, getD, take, drop, replicate, length-append}
 use lib.Seq.{take-at, drop-at, length-take-le, take-add, drop-drop}
 use borrow.Author.Tests.{eqb-true, eqb-false, ne-eqb}
 use Rattle.meaning.specs.Types.{Form, low, rest}
@@ -14,7 +14,6 @@ use Rattle.meaning.specs.Terms.{arity, code, headFrom, Row}
 use Rattle.meaning.specs.Steps.{_∨ᵇ_}
 use Rattle.put.specs.Put.{next, pick, told, mark, fan, atPlace, binds, inner, after, standing, below, Descends, Bare, firstRow, endRow, chosen}
 use Rattle.put.proofs.Turning.{binds-none, binds-let}
-use Rattle.put.proofs.Loops.{standing-length}
 
 -- NO MASK: nothing is hidden in any tree
 abbrev pub unhidden : List ℕ

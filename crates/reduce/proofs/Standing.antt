@@ -1,5 +1,5 @@
 -- Rules that make the end of their tree, told by rows that may go on behind it. Assumes nothing.
-use Prim.Native.Nat.{ℕ, zero, suc, _+_, _-_, _≤_, _<_}
+use Prim.Native.Nat.{ℕ, zero, suc, _+_, _≤_, _<_}
 use mathlib.Core.Path.{_≡_, refl, ap, sym, _∙_}
 use mathlib.Core.Bool.{Bool, true, false, cond}
 use mathlib.Core.List.{List, [], _∷_, _++_, map, append-nil}
@@ -11,7 +11,7 @@ use lib.Seq.{drop-drop, drop-append-seam}
 use borrow.Author.Tests.{eq-eqb, ne-eqb}
 use Rattle.meaning.specs.Types.{Param, Form, params, find}
 use Rattle.meaning.specs.Terms.{truth, Head, lit, lambda, apply, ite, tuple, project, arity, code, wordOf, headFrom, Tree, Forest, node, end, more, headOf, tyOf, is, Row, flat, flats, size, sizes, rowOf, kindNo, nNo, typeNo, wordNo, treeOf, treeAt, grove}
-use Rattle.meaning.specs.Steps.{Sub, veil, hide, hit, swap, assign, put, puts, nth, child, kid, ifStep, projectStep, applyStep, contract}
+use Rattle.meaning.specs.Steps.{Sub, veil, hide, hit, swap, assign, put, puts, nth, child, kid, projectStep, applyStep, contract}
 use Rattle.meaning.specs.Typing.{tys, scope}
 use Rattle.meaning.proofs.Trees.Parse.{length-flat, tree-at-zero, grove-more}
 use Rattle.terms.proofs.Scan.{grove-none, grove-size, size-some}

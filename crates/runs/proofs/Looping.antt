@@ -1,24 +1,24 @@
 -- A run under way on a sound record, and what it says where it ends. Assumes nothing.
-use Prim.Native.Nat.{ℕ, suc, _+_, _*_, _-_, _/_, _<_, _≤_}
+use Prim.Native.Nat.{ℕ, _+_, _-_, _/_, _<_, _≤_}
 use mathlib.Core.Path.{_≡_, refl, ap, sym, _∙_, subst}
-use mathlib.Core.Bool.{Bool, true, false, cond, false≢true}
+use mathlib.Core.Bool.{Bool, true, false, false≢true}
 use mathlib.Core.List.{List, [], _∷_, map}
 use mathlib.Core.Option.{Option, none, some}
 use native.Mathlib.Omega.{arith}
 use borrow.Author.Tests.{eq-eqb}
-use lib.ListN.{length, take, drop, replicate, length-drop}
+use lib.ListN.{length, take, replicate, length-drop}
 use Rattle.meaning.specs.Bytes.{_∧ᵇ_, Limits, padded, rowsAt, recordBytes}
 use Rattle.meaning.specs.Types.{Form, formOf}
 use Rattle.meaning.specs.Terms.{code, Tree, size, top}
-use Rattle.meaning.specs.Steps.{Call, Out, stay, go, value, step}
-use Rattle.meaning.specs.Records.{State, recordOf, stateOf, sound, typeCount, typesIn, openCount, nextNumber, headSound, entriesIn, entryOf, rowCount as rowCount′}
-use Rattle.meaning.specs.Entries.{Ended, stepped, sent, runs, lent, ranOut, run, RunSays, letterOf}
+use Rattle.meaning.specs.Steps.{Call, stay, go, step}
+use Rattle.meaning.specs.Records.{State, recordOf, stateOf, sound, typeCount, typesIn, openCount, nextNumber, headSound, entryOf, rowCount as rowCount′}
+use Rattle.meaning.specs.Entries.{Ended, stepped, runs, lent, ranOut, run, RunSays, letterOf}
 use Rattle.meaning.specs.declared.Answer.{Answer}
 use Rattle.meaning.specs.declared.Run.{Run}
 use Rattle.meaning.specs.declared.Run.the-variants.{Ran}
 use Rattle.meaning.proofs.Trees.Tests.{both, left}
 use Rattle.meaning.proofs.Bytes.Layouts.{AllBytes, padded-none}
-use Rattle.meaning.proofs.Bytes.Records.{Small, Good, good-state, record-state, Header, header}
+use Rattle.meaning.proofs.Bytes.Records.{Good, good-state, record-state, Header, header}
 use Rattle.meaning.proofs.Trees.EachRow.{Every}
 use Rattle.meaning.proofs.Bytes.RowTables.{legal}
 use Rattle.meaning.proofs.Entries.GoodStays.{Board}
@@ -26,11 +26,10 @@ use Rattle.search.specs.Frames.{around}
 use Rattle.search.specs.Kept.{rowCount}
 use Rattle.search.specs.Search.{Room}
 use Rattle.search.specs.declared.Stand.{Stand}
-use Rattle.keep.specs.Keep.{Roomy}
 use Rattle.runs.specs.Sites.{Site, Whole, Halted, own, InRecord, Turns, Tells, Calling}
 use Rattle.runs.specs.Going.{space, OnTheWay, Begins, PutBack, Fronts}
 use Rattle.runs.specs.Loops.{Ready, SentOff}
-use Rattle.runs.specs.Tries.{Trying, Tries, Turning, Steps, Found}
+use Rattle.runs.specs.Tries.{Tries, Turning, Steps, Found}
 use Rattle.runs.specs.declared.Next.{Next}
 use Rattle.runs.specs.declared.Tried.{Tried}
 use Rattle.runs.specs.declared.Tried.the-variants.{Stays, Goes, Sends}

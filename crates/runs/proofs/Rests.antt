@@ -6,11 +6,11 @@ use mathlib.Core.List.{List, [], _∷_}
 use native.Mathlib.Omega.{arith}
 use lib.ListN.{length, getD}
 use Rattle.meaning.specs.Types.{Form, member}
-use Rattle.meaning.specs.Terms.{Head, lit, var, lambda, foreign, apply, future, ite, fix, nil, cons, isnil, zip, tuple, project, lproject, bind, arity, code, Tree, Forest, headOf, size, top}
+use Rattle.meaning.specs.Terms.{Head, lit, var, lambda, foreign, apply, future, ite, fix, nil, cons, isnil, zip, tuple, project, lproject, bind, arity, code, Tree, Forest, headOf, top}
 use Rattle.meaning.specs.Steps.{stay, value, valueKinds, madeOfValues, contract, step}
 use Rattle.meaning.proofs.Bytes.Records.{size-some}
-use Rattle.search.specs.Frames.{Frame, below, around, passedRows}
-use Rattle.search.specs.Kept.{rowCount, kindAt, rowIn, valueEnd}
+use Rattle.search.specs.Frames.{Frame, below, around}
+use Rattle.search.specs.Kept.{kindAt, rowIn, valueEnd}
 use Rattle.search.specs.Search.{Room, Searching}
 use Rattle.search.specs.declared.Stand.{Stand}
 use Rattle.search.proofs.Ends.{root-stays, end-stays}

@@ -1,14 +1,12 @@
 -- One copy behind the other.
-use Prim.Native.Nat.{ℕ, _+_, _*_, _-_}
-use mathlib.Core.Path.{_≡_, refl, ap, sym, _∙_}
+use Prim.Native.Nat.{_-_}
+use mathlib.Core.Path.{refl, _∙_}
 use native.Mathlib.Omega.{arith}
-use lib.ListN.{length}
 use Rattle.layout.specs.Rows.{rowTable}
 use Rattle.layout.proofs.Tables.{row-table-length}
 use Rattle.put.specs.Put.{standing}
 use Rattle.put.proofs.Loops.{standing-length}
 use Rattle.put.proofs.Bare.{both-written}
-use borrow.Author.Needs.{needs}
 use Rattle.put.proofs.copy_both.Statement.{statement}
 use Rattle.put.proofs.copy_both.Tie as tie
 

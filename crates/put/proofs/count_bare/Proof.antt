@@ -1,18 +1,14 @@
 -- The loop's invariant: the rows counted and those left to write are all, and no tree owed has a mask.
-use mathlib.Core.Path.{_≡_, refl, ap, sym, _∙_}
-use mathlib.Core.Bool.{false≢true}
-use Prim.Native.Nat.{ℕ, _+_, _*_, _-_, _≤_}
-use mathlib.Core.List.{List, _++_}
+use mathlib.Core.Path.{_≡_, ap}
+use Prim.Native.Nat.{ℕ, _+_, _-_}
 use native.Mathlib.Omega.{arith}
-use lib.ListN.{length, take, drop, length-replicate}
+use lib.ListN.{length, length-replicate}
 use Rattle.layout.specs.Rows.{numbers, typeTable, rowTable}
-use Rattle.layout.proofs.Tables.{row-table-length}
 use Rattle.meaning.specs.Types.{formOf}
 use Rattle.meaning.specs.Terms.{rowOf}
-use Rattle.put.specs.Put.{standing, putRows}
 use Rattle.put.proofs.Rows.{row-read, row-in}
-use Rattle.put.proofs.Loops.{Going, left, going-start, going-end, going-in, going-room, copied-span, going-next, going-fits, written-start, written-end, turned, standing-length}
-use Rattle.put.proofs.Bare.{unhidden, none-hidden, bare-descends, first-bare, end-bare, standing-none, piece-written, pending-next}
+use Rattle.put.proofs.Loops.{Going, left, going-start, going-end, going-in, copied-span, going-next}
+use Rattle.put.proofs.Bare.{unhidden, none-hidden, bare-descends, first-bare, end-bare}
 use borrow.Author.Needs.{needs}
 use Rattle.put.proofs.count_bare.Statement.{statement}
 use Rattle.put.proofs.count_bare.Tie as tie

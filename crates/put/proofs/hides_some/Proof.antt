@@ -1,6 +1,5 @@
 -- A binder by its mask; no other row hides a name.
 use mathlib.Core.Path.{sym, _∙_}
-use native.Mathlib.Omega.{arith}
 use Rattle.layout.specs.Rows.{typeTable}
 use Rattle.meaning.specs.Types.{formOf}
 use Rattle.meaning.specs.Terms.{rowOf}

@@ -1,17 +1,17 @@
 -- The loop's invariant: the rows written, those that stand before the next row, and those left to write are all.
 use mathlib.Core.Path.{_≡_, refl, ap, sym, _∙_}
 use mathlib.Core.Bool.{false≢true}
-use Prim.Native.Nat.{ℕ, _+_, _*_, _-_, _≤_}
+use Prim.Native.Nat.{ℕ, _+_, _-_, _≤_}
 use mathlib.Core.List.{List, _++_, append-assoc}
 use native.Mathlib.Omega.{arith}
-use lib.ListN.{length, take, drop, length-append, length-replicate}
+use lib.ListN.{length, take, length-append, length-replicate}
 use Rattle.layout.specs.Rows.{numbers, typeTable, rowTable}
 use Rattle.layout.proofs.Tables.{row-table-length}
 use Rattle.meaning.specs.Types.{formOf}
 use Rattle.meaning.specs.Terms.{rowOf}
 use Rattle.put.specs.Put.{standing, putRows}
 use Rattle.put.proofs.Rows.{row-read, row-in}
-use Rattle.put.proofs.Loops.{Going, left, going-start, going-end, going-in, going-room, copied-span, going-next, going-fits, written-start, written-end, turned, standing-length}
+use Rattle.put.proofs.Loops.{Going, left, going-start, going-end, going-in, copied-span, going-next, going-fits, written-start, written-end, turned, standing-length}
 use Rattle.put.proofs.Bare.{unhidden, none-hidden, bare-descends, first-bare, end-bare, standing-none, piece-written, pending-next}
 use borrow.Author.Needs.{needs}
 use Rattle.put.proofs.write_bare.Statement.{statement}

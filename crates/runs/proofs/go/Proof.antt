@@ -1,7 +1,6 @@
 -- The loop's invariant: the buffers hold the term after the steps made so far. Each way out is a line of the table, or a call.
-use Prim.Native.Nat.{ℕ, _+_, _*_, _-_, _<_, _≤_}
-use mathlib.Core.Path.{_≡_, refl, ap, sym, _∙_}
-use mathlib.Core.Bool.{Bool, true, false}
+use Prim.Native.Nat.{_-_}
+use mathlib.Core.Path.{_≡_, refl, _∙_}
 use mathlib.Core.Option.{none, some}
 use native.Mathlib.Omega.{arith}
 use lib.ListN.{length}

@@ -1,5 +1,5 @@
 -- The tree stands already; or it is written, at a row or at a frame's end, where nothing of the record changes.
-use Prim.Native.Nat.{ℕ, _<_}
+use Prim.Native.Nat.{_<_}
 use mathlib.Core.Path.{refl}
 use native.Mathlib.Omega.{arith}
 use Rattle.layout.specs.Rows.{board}

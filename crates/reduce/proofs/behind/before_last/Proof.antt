@@ -1,11 +1,9 @@
 -- By the kind of the tuple, and by the place.
-use Prim.Native.Nat.{ℕ, suc, _+_, _-_, _≤_}
-use mathlib.Core.Path.{_≡_, ap, sym, _∙_, subst}
-use mathlib.Core.List.{map}
+use Prim.Native.Nat.{suc, _-_}
+use mathlib.Core.Path.{_≡_, ap, _∙_}
 use native.Mathlib.Omega.{arith}
-use lib.ListN.{length}
 use Rattle.layout.specs.Rows.{rowTable}
-use Rattle.meaning.specs.Terms.{rowOf, kindNo, nNo, sizes, grove}
+use Rattle.meaning.specs.Terms.{kindNo, nNo}
 use Rattle.reduce.specs.Plan.{rowNo}
 use Rattle.reduce.proofs.Standing.{first-there, tuple-there, others-inside, last-element}
 use borrow.Author.Needs.{needs}

@@ -8,7 +8,6 @@ use Rattle.meaning.specs.Terms.{rowOf}
 use Rattle.reduce.specs.Plan.{Plans}
 use Rattle.reduce.proofs.Given.{call-more, call-size}
 use Rattle.reduce.proofs.Zipped.{plan-other-call}
-use borrow.Author.Needs.{needs}
 use Rattle.reduce.proofs.plans.plan_call.Statement.{statement}
 use Rattle.reduce.proofs.plans.plan_call.Tie as tie
 

@@ -1,11 +1,10 @@
 -- By the masked arguments, where they begin and end.
 use mathlib.Core.Path.{_≡_, refl, ap, sym, _∙_, subst}
 use native.Mathlib.Omega.{arith}
-use Prim.Native.Nat.{ℕ, _+_, _*_}
+use Prim.Native.Nat.{ℕ, _+_}
 use mathlib.Core.List.{List, map}
 use lib.ListN.{length}
-use Rattle.layout.specs.Rows.{typeTable, rowTable}
-use Rattle.meaning.specs.Types.{formOf}
+use Rattle.layout.specs.Rows.{rowTable}
 use Rattle.meaning.specs.Terms.{rowOf, nNo, sizes, grove}
 use Rattle.meaning.specs.Steps.{ready, anyNil}
 use Rattle.reduce.specs.Plan.{rowNo}

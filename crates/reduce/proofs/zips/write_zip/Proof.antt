@@ -7,7 +7,7 @@ use lib.ListN.{length}
 use Rattle.layout.specs.Rows.{typeTable, rowTable}
 use Rattle.meaning.specs.Types.{formOf}
 use Rattle.meaning.specs.Terms.{rowOf, nNo, sizes, grove}
-use Rattle.meaning.specs.Steps.{ready, anyNil}
+use Rattle.meaning.specs.Steps.{anyNil}
 use Rattle.reduce.specs.Plan.{rowNo}
 use Rattle.reduce.specs.Halves.{BoundsAt}
 use Rattle.reduce.proofs.Roots.{some-row}
