@@ -1,5 +1,5 @@
 -- The tables by kind: children, and the ranges of fields. Assumes nothing.
-use Prim.Native.Nat.{ℕ, zero, suc, _<_, _≤_}
+use Prim.Native.Nat.{ℕ, zero, suc, _+_, _*_, _/_, _%_, _^_, _<_, _≤_}
 use mathlib.Core.Path.{_≡_, refl, ap, sym, _∙_, subst}
 use mathlib.Core.Bool.{Bool, true, false, cond}
 use mathlib.Core.List.{List, [], _∷_}
@@ -50,17 +50,35 @@ head-other k n w h =
 
 -- Children -------------------------------------------------------------------------------------------------------
 
-abbrev Leaf : ℕ → Type 0
-Leaf k = (k ≡ 6 → ⊥) → (k ≡ 8 → ⊥) → (k ≡ 10 → ⊥) → (k ≡ 11 → ⊥) → (k ≡ 13 → ⊥) → (k ≡ 14 → ⊥) → (k ≡ 15 → ⊥) → (k ≡ 16 → ⊥) → (k ≡ 17 → ⊥) → (k ≡ 18 → ⊥) → (k ≡ 19 → ⊥) → (n w : ℕ) → arity (headFrom k n w) ≡ 0
+-- two bits a kind: the children that n does not count
+abbrev counts : ℕ → ℕ
+counts k = 637138964480 / 2 ^ (2 * k) % 4
 
-leaf-at : Below Leaf 20
+-- one bit a kind: 1 where n counts children
+abbrev by-n : ℕ → ℕ
+by-n k = 65792 / 2 ^ k % 2
+
+abbrev Counted : ℕ → Type 0
+Counted k = by-n k ≡ 1 → (counts k ≤ 1) × ((n w : ℕ) → counts k + n ≡ arity (headFrom k n w))
+
+counted-at : Below Counted 20
 unfolding headFrom
-leaf-at = ((((((((((((((((((((tt, (λ a b c d e f g h i j k n w. refl)), (λ a b c d e f g h i j k n w. refl)), (λ a b c d e f g h i j k n w. refl)), (λ a b c d e f g h i j k n w. refl)), (λ a b c d e f g h i j k n w. refl)), (λ a b c d e f g h i j k n w. refl)), (λ a b c d e f g h i j k n w. absurd (a refl))), (λ a b c d e f g h i j k n w. refl)), (λ a b c d e f g h i j k n w. absurd (b refl))), (λ a b c d e f g h i j k n w. refl)), (λ a b c d e f g h i j k n w. absurd (c refl))), (λ a b c d e f g h i j k n w. absurd (d refl))), (λ a b c d e f g h i j k n w. refl)), (λ a b c d e f g h i j k n w. absurd (e refl))), (λ a b c d e f g h i j k n w. absurd (f refl))), (λ a b c d e f g h i j k n w. absurd (g refl))), (λ a b c d e f g h i j k n w. absurd (h refl))), (λ a b c d e f g h i j k n w. absurd (i refl))), (λ a b c d e f g h i j k n w. absurd (j refl))), (λ a b c d e f g h i j k n w. absurd (k refl)))
+counted-at = ((((((((((((((((((((tt, (λ e. absurd (omega arith))), (λ e. absurd (omega arith))), (λ e. absurd (omega arith))), (λ e. absurd (omega arith))), (λ e. absurd (omega arith))), (λ e. absurd (omega arith))), (λ e. absurd (omega arith))), (λ e. absurd (omega arith))), (λ e. (omega arith, (λ n w. omega arith)))), (λ e. absurd (omega arith))), (λ e. absurd (omega arith))), (λ e. absurd (omega arith))), (λ e. absurd (omega arith))), (λ e. absurd (omega arith))), (λ e. absurd (omega arith))), (λ e. absurd (omega arith))), (λ e. (omega arith, (λ n w. omega arith)))), (λ e. absurd (omega arith))), (λ e. absurd (omega arith))), (λ e. absurd (omega arith)))
 
--- a kind that code does not name has no children
-pub arity-leaf : (k : ℕ) → Leaf k
-arity-leaf x a b c d e f g h i j k n w =
-    elim (decLt x 20) [ yes y ↦ below Leaf 20 leaf-at x y a b c d e f g h i j k n w | no y ↦ ap arity (head-other x n w (omega arith)) ]
+-- where n counts children, at most one more stands before them
+pub arity-by-n : (k : ℕ) → k < 20 → Counted k
+arity-by-n k h = below Counted 20 counted-at k h
+
+abbrev Fixed : ℕ → Type 0
+Fixed k = (by-n k ≡ 1 → ⊥) → (n w : ℕ) → counts k ≡ arity (headFrom k n w)
+
+fixed-at : Below Fixed 20
+unfolding headFrom
+fixed-at = ((((((((((((((((((((tt, (λ e n w. refl)), (λ e n w. refl)), (λ e n w. refl)), (λ e n w. refl)), (λ e n w. refl)), (λ e n w. refl)), (λ e n w. refl)), (λ e n w. refl)), (λ e. absurd (e refl))), (λ e n w. refl)), (λ e n w. refl)), (λ e n w. refl)), (λ e n w. refl)), (λ e n w. refl)), (λ e n w. refl)), (λ e n w. refl)), (λ e. absurd (e refl))), (λ e n w. refl)), (λ e n w. refl)), (λ e n w. refl))
+
+-- where n counts none, the kind alone tells
+pub arity-fixed : (k : ℕ) → k < 20 → Fixed k
+arity-fixed k h = below Fixed 20 fixed-at k h
 
 abbrev Few : ℕ → Type 0
 Few k = (k ≡ 8 → ⊥) → (k ≡ 16 → ⊥) → (n w : ℕ) → arity (headFrom k n w) ≤ 3

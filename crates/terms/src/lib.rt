@@ -26,26 +26,25 @@ pub struct Fields {
     pub high: u32,
 }
 
+// Two bits a kind, kind 0 the lowest: how many children a row of the kind has, those that n counts not among them.
+const COUNTS: u64 = 0b10_01_01_00_01_01_10_00_01_11_00_01_00_01_00_00_00_00_00_00;
+
+// One bit a kind: whether n counts children.
+const BY_N: u32 = 0b0001_0000_0001_0000_0000;
+
 // How many children a row has.
 pub fn children(r: Row) -> usize
     ensures { λ c. ⌜ (c ≡ arity (rowOf (numbers r) .head)) × (c ≤ 256) ⌝ }
 {
     let k = r.kind;
-    let n = r.n as usize;
-    match k {
-        6 => 1,
-        8 => n + 1,
-        10 => 3,
-        11 => 1,
-        13 => 2,
-        14 => 1,
-        15 => 1,
-        16 => n,
-        17 => 1,
-        18 => 1,
-        19 => 2,
-        _ => 0,
+    if 19 < k {
+        return 0;
     }
+    let c = ((COUNTS >> (2 * k)) % 4) as usize;
+    if (BY_N >> k) % 2 == 1 {
+        return c + r.n as usize;
+    }
+    c
 }
 
 // A word of any value; a number from 1 to 65,535; an n from `low` to `high`.

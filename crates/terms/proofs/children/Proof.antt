@@ -1,10 +1,9 @@
--- One line a kind.
-use Prim.Native.Nat.{ℕ, suc, _+_}
-use mathlib.Core.Path.{_≡_, sym, ap, _∙_}
-use Rattle.meaning.specs.Terms.{arity, headFrom, rowOf}
-use Rattle.terms.proofs.ByKind.{arity-leaf}
+-- A number that is no kind has no children; of a kind, two bits and n tell how many.
+use mathlib.Core.Path.{sym, ap}
 use borrow.Author.Needs.{needs}
 use native.Mathlib.Omega.{arith}
+use Rattle.meaning.specs.Terms.{arity, rowOf}
+use Rattle.terms.proofs.ByKind.{head-other, arity-by-n, arity-fixed}
 use Rattle.terms.proofs.children.Statement.{statement}
 use Rattle.terms.proofs.children.Tie as tie
 
@@ -12,66 +11,23 @@ pub children-spec : {M : Type 1} → statement M
 children-spec =
     tie.close
     (tie.spec
-    (λ c. search needs)
-    (λ c. search needs)
-    -- kind 6
-    (λ c. unfold rowOf headFrom in (
-    let args = c .before .before .args in
-    let the-match = c .match in
-    (sym (ap (λ (x : ℕ). arity (headFrom x (args .r .n) (args .r .word))) (the-match .keys1)), omega arith)))
-    -- kind 8
-    (λ c. unfold rowOf headFrom in (
-    let args = c .before .before .args in
-    let the-match = c .match in
-    let e : args .r .n + 1 ≡ suc (args .r .n) = omega arith in
-    (e ∙ sym (ap (λ (x : ℕ). arity (headFrom x (args .r .n) (args .r .word))) (the-match .keys2)), omega arith)))
-    -- kind 10
-    (λ c. unfold rowOf headFrom in (
-    let args = c .before .before .args in
-    let the-match = c .match in
-    (sym (ap (λ (x : ℕ). arity (headFrom x (args .r .n) (args .r .word))) (the-match .keys3)), omega arith)))
-    -- kind 11
-    (λ c. unfold rowOf headFrom in (
-    let args = c .before .before .args in
-    let the-match = c .match in
-    (sym (ap (λ (x : ℕ). arity (headFrom x (args .r .n) (args .r .word))) (the-match .keys4)), omega arith)))
-    -- kind 13
-    (λ c. unfold rowOf headFrom in (
-    let args = c .before .before .args in
-    let the-match = c .match in
-    (sym (ap (λ (x : ℕ). arity (headFrom x (args .r .n) (args .r .word))) (the-match .keys5)), omega arith)))
-    -- kind 14
-    (λ c. unfold rowOf headFrom in (
-    let args = c .before .before .args in
-    let the-match = c .match in
-    (sym (ap (λ (x : ℕ). arity (headFrom x (args .r .n) (args .r .word))) (the-match .keys6)), omega arith)))
-    -- kind 15
-    (λ c. unfold rowOf headFrom in (
-    let args = c .before .before .args in
-    let the-match = c .match in
-    (sym (ap (λ (x : ℕ). arity (headFrom x (args .r .n) (args .r .word))) (the-match .keys7)), omega arith)))
-    -- kind 16
-    (λ c. unfold rowOf headFrom in (
-    let args = c .before .before .args in
-    let the-match = c .match in
-    (sym (ap (λ (x : ℕ). arity (headFrom x (args .r .n) (args .r .word))) (the-match .keys8)), omega arith)))
-    -- kind 17
-    (λ c. unfold rowOf headFrom in (
-    let args = c .before .before .args in
-    let the-match = c .match in
-    (sym (ap (λ (x : ℕ). arity (headFrom x (args .r .n) (args .r .word))) (the-match .keys9)), omega arith)))
-    -- kind 18
-    (λ c. unfold rowOf headFrom in (
-    let args = c .before .before .args in
-    let the-match = c .match in
-    (sym (ap (λ (x : ℕ). arity (headFrom x (args .r .n) (args .r .word))) (the-match .keys10)), omega arith)))
-    -- kind 19
-    (λ c. unfold rowOf headFrom in (
-    let args = c .before .before .args in
-    let the-match = c .match in
-    (sym (ap (λ (x : ℕ). arity (headFrom x (args .r .n) (args .r .word))) (the-match .keys11)), omega arith)))
-    -- the others
+    -- no kind
     (λ c. unfold rowOf in (
-    let args = c .before .before .args in
-    let the-match = c .match in
-    (sym (arity-leaf (args .r .kind) (the-match .rest .0 .0 .0 .0 .0 .0 .0 .0 .0 .0 .1) (the-match .rest .0 .0 .0 .0 .0 .0 .0 .0 .0 .1) (the-match .rest .0 .0 .0 .0 .0 .0 .0 .0 .1) (the-match .rest .0 .0 .0 .0 .0 .0 .0 .1) (the-match .rest .0 .0 .0 .0 .0 .0 .1) (the-match .rest .0 .0 .0 .0 .0 .1) (the-match .rest .0 .0 .0 .0 .1) (the-match .rest .0 .0 .0 .1) (the-match .rest .0 .0 .1) (the-match .rest .0 .1) (the-match .rest .1) (args .r .n) (args .r .word)), omega arith))))
+    let r = c .before .args .r in
+    (sym (ap arity (head-other (r .kind) (r .n) (r .word) (c .if1 .taken))), omega arith)))
+    (λ c. search needs)
+    (λ c. search needs)
+    (λ c. search needs)
+    (λ c. search needs)
+    (λ c. search needs)
+    (λ c. search needs)
+    (λ c. search needs)
+    -- n counts children
+    (λ c. unfold rowOf in (
+    let r = c .before .before .before .args .r in
+    let law = arity-by-n (r .kind) (omega arith) (c .before .if2 .taken) in
+    (law .1 (r .n) (r .word), omega (arith, law .0))))
+    -- n counts none
+    (λ c. unfold rowOf in (
+    let r = c .before .before .args .r in
+    (arity-fixed (r .kind) (omega arith) (c .if2 .left) (r .n) (r .word), omega arith))))
