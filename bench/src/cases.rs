@@ -1,12 +1,12 @@
-//! What is measured: program files to load, records to run and to reply to, each at half and at full size.
+//! What is measured: program files to load, records to run and to reply to, each at several sizes.
 
-use evaluator::layout::{u16_at, MAX_ROWS, MAX_TYPES, WORK_BYTES};
-use evaluator::make::nests::nests;
-use evaluator::make::records::written;
-use evaluator::record::Entry;
+use evaluator::layout::{u16_at, MAX_ROWS, MAX_TYPES};
+use evaluator::make::nests::{nests, Nested};
 use evaluator::rows::{kind, Row};
-use evaluator::table::{apply, file_of, leaf, list, plain, reply_of, tuple, Table};
+use evaluator::table::{leaf, reply_of};
 use tca::RECORD_BYTES;
+
+use crate::terms::*;
 
 /// A call of one entry.
 pub enum Call {
@@ -21,28 +21,70 @@ pub struct Job {
     pub call: Call,
 }
 
-/// What the full size has twice of.
+/// What a larger size has more of.
 #[derive(Clone, Copy, PartialEq)]
-pub enum Doubled {
+pub enum By {
     Rows,
     Types,
+    Binders,
     OpenCalls,
-    /// Rows that stand before the place of each step, or behind it.
+    /// Rows that stand before the place of each step or of the future, or behind it.
     Before,
     Behind,
+    /// Rows before the future, as many fewer behind it.
+    Place,
 }
 
-/// A call at half and at full size.
+impl By {
+    pub fn words(self) -> &'static str {
+        match self {
+            By::Rows => "rows",
+            By::Types => "types",
+            By::Binders => "binders",
+            By::OpenCalls => "open calls",
+            By::Before => "rows before",
+            By::Behind => "rows behind",
+            By::Place => "row of the future",
+        }
+    }
+}
+
+/// A call at one size; of some only the library's time is wanted, for the growth of the next.
+pub struct Size {
+    pub size: usize,
+    pub job: Job,
+    pub shown: bool,
+}
+
+/// A call at several sizes, from the least up.
 pub struct Case {
     pub name: String,
-    pub half: Job,
-    pub full: Job,
-    pub doubled: Doubled,
+    pub by: By,
+    pub sizes: Vec<Size>,
+    /// Whether growth is that of a step: where a larger term takes more of them.
+    pub each_step: bool,
 }
 
 impl Case {
-    fn new(name: &str, doubled: Doubled, full: usize, make: impl Fn(usize) -> Job) -> Case {
-        Case { name: name.to_string(), half: make(full / 2), full: make(full), doubled }
+    /// At half and at full size, of which the full one is shown.
+    fn twice(name: &str, by: By, full: usize, make: impl Fn(usize) -> Job) -> Case {
+        Case::of_two(name, by, full, [make(full / 2), make(full)])
+    }
+
+    fn of_two(name: &str, by: By, full: usize, [half, whole]: [Job; 2]) -> Case {
+        let sizes =
+            vec![Size { size: full / 2, job: half, shown: false }, Size { size: full, job: whole, shown: true }];
+        Case { name: name.to_string(), by, sizes, each_step: false }
+    }
+
+    /// At each of these sizes, all shown.
+    fn series(name: &str, by: By, sizes: &[usize], make: impl Fn(usize) -> Job) -> Case {
+        let sizes = sizes.iter().map(|&size| Size { size, job: make(size), shown: true }).collect();
+        Case { name: name.to_string(), by, sizes, each_step: false }
+    }
+
+    fn each_step(self) -> Case {
+        Case { each_step: true, ..self }
     }
 }
 
@@ -66,24 +108,64 @@ impl Job {
     }
 }
 
-pub fn loads() -> Vec<Case> {
-    use Doubled::{Rows, Types};
-    let by_rows = |name: &str, make: fn(usize) -> Vec<u8>| Case::new(name, Rows, 1_024, |rows| Job::load(make(rows)));
-    let mut cases = vec![
-        Case::new("(a) a short routine", Rows, 80, |rows| Job::load(routine(rows, 0))),
-        Case::new("(a) a long routine", Rows, 200, |rows| Job::load(routine(rows, 0))),
-        by_rows("(b) the largest program", |rows| routine(rows, MAX_TYPES)),
-        Case::new("(b) the largest program", Types, MAX_TYPES, |types| Job::load(routine(1_024, types))),
-        Case::new("(b) types of eight parts each", Types, MAX_TYPES, |types| Job::load(eightfold_chain(types))),
-    ];
-    for (half, full) in nests(512).zip(nests(1_024)) {
-        let name = format!("(c) {}", full.name);
-        cases.push(Case { name, half: Job::load(half.file()), full: Job::load(full.file()), doubled: Rows });
+const TYPES: [usize; 5] = [16, 32, 64, 128, 256];
+const BINDERS: [usize; 4] = [32, 64, 128, 256];
+const OPEN_CALLS: [usize; 5] = [1, 8, 16, 32, 64];
+/// A budget that every routine here ends within.
+const PLENTY: u32 = 100_000;
+
+/// The routine whose costs the picture shows, by the entry's name: at its load, at its run to the first call, at the reply
+/// to that.
+pub fn pictured(entry: &str) -> Case {
+    const SIZES: [usize; 6] = [64, 128, 256, 512, 1_024, 2_048];
+    match entry {
+        "load" => Case::series("(a) a routine", By::Rows, &SIZES[..5], |rows| Job::load(routine(rows, 0))),
+        "run" => Case::series("(a) a routine, to its first call", By::Rows, &SIZES, |rows| {
+            Job::run(record_of(rows, 0), 1_000)
+        }),
+        _ => Case::series("(a) a routine, its first call", By::Rows, &SIZES, |rows| {
+            reply_of_string(after_a_call(rows, 0), 1)
+        }),
     }
+}
+
+fn reply_of_string(record: Vec<u8>, number: usize) -> Job {
+    Job::reply(record, number as u32, &leaf(kind::STR, 0, 41))
+}
+
+/// A case for each nest, of so many rows and of half as many.
+fn nested(rows: usize, what: &str, make: impl Fn(&Nested) -> Job) -> Vec<Case> {
+    let both = nests(rows / 2).zip(nests(rows));
+    both.map(|(half, full)| {
+        let name = format!("(c) {}{what}", full.name);
+        Case::of_two(&name, By::Rows, rows, [make(&half), make(&full)])
+    })
+    .collect()
+}
+
+pub fn loads() -> Vec<Case> {
+    let by_rows =
+        |name: &str, make: fn(usize) -> Vec<u8>| Case::twice(name, By::Rows, 1_024, |rows| Job::load(make(rows)));
+    let by_types =
+        |name: &str, make: fn(usize) -> Vec<u8>| Case::series(name, By::Types, &TYPES, |types| Job::load(make(types)));
+    let by_binders = |name: &str, make: fn(usize) -> Vec<u8>| {
+        Case::series(name, By::Binders, &BINDERS, |binders| Job::load(make(binders)))
+    };
+    let mut cases = vec![
+        pictured("load"),
+        Case::twice("(a) a short routine", By::Rows, 80, |rows| Job::load(routine(rows, 0))),
+        Case::twice("(a) a long routine", By::Rows, 200, |rows| Job::load(routine(rows, 0))),
+        by_rows("(b) the largest program", |rows| routine(rows, MAX_TYPES)),
+        by_types("(b) the largest program", |types| routine(1_024, types)),
+        by_types("(b) types of eight parts each", eightfold_chain),
+        by_types("(b) types that differ in their last part", last_part_chain),
+    ];
+    cases.extend(nested(1_024, "", |nested| Job::load(nested.file())));
     cases.extend([
-        by_rows("(d) near names under lets", |rows| names_under_lets(rows, |lets, _| lets)),
-        by_rows("(d) far names under lets", |rows| names_under_lets(rows, |_, _| 1)),
-        by_rows("(d) all names under lets", |rows| names_under_lets(rows, |lets, which| which % lets + 1)),
+        by_rows("(d) near names under lets", |rows| names_under_lets(rows, rows / 4, |lets, _| lets)),
+        by_rows("(d) far names under lets", |rows| names_under_lets(rows, rows / 4, |_, _| 1)),
+        by_rows("(d) all names under lets", |rows| names_under_lets(rows, rows / 4, |lets, which| which % lets + 1)),
+        by_binders("(d) far names under lets", |lets| names_under_lets(1_024, lets, |_, _| 1)),
         by_rows("(d) near names under functions of eight", |rows| names_under_functions(rows, true)),
         by_rows("(d) far names under functions of eight", |rows| names_under_functions(rows, false)),
         // A string that states Bool: its parent is satisfied, its own rule is not.
@@ -95,342 +177,99 @@ pub fn loads() -> Vec<Case> {
 }
 
 pub fn runs() -> Vec<Case> {
-    use Doubled::{Before, Behind, OpenCalls, Rows, Types};
+    let to_first_call = |rows| Job::run(record_of(rows, 0), 1_000);
+    let no_step = |rows, types| Job::run(record_of(rows, types), 0);
     let mut cases = vec![
-        Case::new("(a) a short routine, to its first call", Rows, 80, |rows| Job::run(record_of(rows, 0), 1_000)),
-        Case::new("(a) a long routine, to its first call", Rows, 200, |rows| Job::run(record_of(rows, 0), 1_000)),
-        Case::new("(b) the largest record, no step", Rows, MAX_ROWS, |rows| Job::run(record_of(rows, MAX_TYPES), 0)),
-        Case::new("(b) the largest record, no step", Types, MAX_TYPES, |types| Job::run(record_of(MAX_ROWS, types), 0)),
-        Case::new("(b) the largest record, waiting", OpenCalls, 64, |calls| Job::run(waiting_calls(calls), 1_000)),
-        Case::new("(b) the largest record, one call more", OpenCalls, 62, |calls| {
+        pictured("run"),
+        Case::twice("(a) a short routine, to its first call", By::Rows, 80, to_first_call),
+        Case::twice("(a) a long routine, to its first call", By::Rows, 200, to_first_call),
+        Case::twice("(b) the largest record, no step", By::Rows, MAX_ROWS, |rows| no_step(rows, MAX_TYPES)),
+        Case::series("(b) the largest record, no step", By::Types, &TYPES, |types| no_step(MAX_ROWS, types)),
+        Case::series("(b) the largest record, waiting", By::OpenCalls, &OPEN_CALLS, |calls| {
+            Job::run(waiting_calls(calls), 1_000)
+        }),
+        Case::series("(b) the largest record, one call more", By::OpenCalls, &[1, 8, 16, 31, 62], |calls| {
             Job::run(with_a_call_left(calls), 1_000)
         }),
     ];
-    for (half, full) in nests(1_024).zip(nests(2_048)) {
-        let name = format!("(c) {}, one step", full.name);
-        cases.push(Case { name, half: Job::run(half.record(), 1), full: Job::run(full.record(), 1), doubled: Rows });
-    }
+    cases.extend(nested(2_048, ", one step", |nested| Job::run(nested.record(), 1)));
     // Of the nests only ifs wait for what is below them.
-    for (half, full) in nests(1_024).zip(nests(2_048)).filter(|(half, _)| half.name.starts_with("if")) {
-        let waiting = [&half, &full].map(|nested| Job::run(nested.waiting().0, 1));
-        let to_value = [&half, &full].map(|nested| Job::run(nested.record(), 100_000));
-        for (what, [half, full]) in [("waiting", waiting), ("to its value, each step", to_value)] {
-            let name = format!("(c) if in if's condition, {what}");
-            cases.push(Case { name, half, full, doubled: Rows });
-        }
-    }
-    for budget in [1, 1_000] {
-        let steps = if budget == 1 { "one step".to_string() } else { "1,000 steps".to_string() };
-        cases.push(Case::new(&format!("(d) {steps} behind rows"), Before, 2_000, |rows| {
-            Job::run(loop_behind(rows), budget)
-        }));
-        cases.push(Case::new(&format!("(d) {steps} before rows"), Behind, 2_000, |rows| {
-            Job::run(loop_before(rows), budget)
-        }));
+    let ifs = |cases: Vec<Case>| cases.into_iter().filter(|case| case.name.starts_with("(c) if"));
+    cases.extend(ifs(nested(2_048, ", waiting", |nested| Job::run(nested.waiting().0, 1))));
+    let to_value = nested(2_048, ", to its value", |nested| Job::run(nested.record(), PLENTY));
+    cases.extend(ifs(to_value).map(Case::each_step));
+    for (budget, steps) in [(1, "one step"), (1_000, "1,000 steps")] {
+        let among = |name, by, make: fn(usize) -> Vec<u8>| {
+            Case::twice(&format!("(d) {steps} {name} rows"), by, 2_000, |rows| Job::run(make(rows), budget))
+        };
+        cases.extend([among("behind", By::Before, loop_behind), among("before", By::Behind, loop_before)]);
     }
     cases.extend([
-        Case::new("(e) a let of many names, one step", Rows, 1_600, |rows| Job::run(many_names(rows), 1)),
-        Case::new("(e) zip to its value, each step", Rows, 800, |rows| Job::run(zip_of(rows), 100_000)),
-        Case::new("(f) the last row fails typing", Rows, MAX_ROWS, |rows| {
-            let mut record = record_of(rows, MAX_TYPES);
-            record[9_748 + (rows - 1) * 8] = kind::STR;
-            Job::run(record, 1_000)
+        Case::twice("(e) a let of many names, one step", By::Rows, 1_600, |rows| Job::run(many_names(rows), 1)),
+        Case::twice("(e) zip to its value", By::Rows, 800, |rows| Job::run(zip_of(rows), PLENTY)).each_step(),
+        Case::twice("(f) the last row fails typing", By::Rows, MAX_ROWS, |rows| {
+            Job::run(with_last_record_row(record_of(rows, MAX_TYPES), kind::STR), 1_000)
         }),
     ]);
     cases
 }
 
 pub fn replies() -> Vec<Case> {
-    use Doubled::{Before, Behind, OpenCalls, Rows};
-    let string = |record: Vec<u8>, number| Job::reply(record, number, &leaf(kind::STR, 0, 41));
+    let to_first_call = |rows| reply_of_string(after_a_call(rows, 0), 1);
+    let largest = |rows, types| reply_of_string(after_a_call(rows, types), 1);
     let mut cases = vec![
-        Case::new("(a) a short routine, its first call", Rows, 80, |rows| string(after_a_call(rows, 0), 1)),
-        Case::new("(a) a long routine, its first call", Rows, 200, |rows| string(after_a_call(rows, 0), 1)),
-        Case::new("(b) the largest record", Rows, MAX_ROWS, |rows| string(after_a_call(rows, MAX_TYPES), 1)),
-        Case::new("(b) the largest record, the last call", OpenCalls, 64, |calls| {
-            string(waiting_calls(calls), calls as u32)
+        pictured("reply"),
+        Case::twice("(a) a short routine, its first call", By::Rows, 80, to_first_call),
+        Case::twice("(a) a long routine, its first call", By::Rows, 200, to_first_call),
+        Case::twice("(b) the largest record", By::Rows, MAX_ROWS, |rows| largest(rows, MAX_TYPES)),
+        Case::series("(b) the largest record", By::Types, &TYPES, |types| largest(MAX_ROWS, types)),
+        Case::series("(b) the largest record, the last call", By::OpenCalls, &OPEN_CALLS, |calls| {
+            reply_of_string(waiting_calls(calls), calls)
         }),
-        Case::new("(b) the largest record, the first call", OpenCalls, 64, |calls| string(waiting_calls(calls), 1)),
+        Case::series("(b) the largest record, the first call", By::OpenCalls, &OPEN_CALLS, |calls| {
+            reply_of_string(waiting_calls(calls), 1)
+        }),
     ];
-    for (half, full) in nests(1_024).zip(nests(2_048)).take(4) {
-        let name = format!("(c) {}", full.name);
-        let [half, full] = [half, full].map(|nested| {
-            let (record, row) = nested.waiting();
-            Job::reply(record, 1, &[row])
-        });
-        cases.push(Case { name, half, full, doubled: Rows });
-    }
+    let innermost = nested(2_048, "", |nested| {
+        let (record, row) = nested.waiting();
+        Job::reply(record, 1, &[row])
+    });
+    cases.extend(innermost.into_iter().take(4));
+    let ten = strings(10);
     cases.extend([
-        Case::new("(d) behind rows", Before, 1_900, |rows| Job::reply(call_among(rows, true), 1, &strings(10))),
-        Case::new("(d) before rows", Behind, 1_900, |rows| Job::reply(call_among(rows, false), 1, &strings(10))),
-        Case::new("(e) one call in many places", Rows, 600, |rows| Job::reply(call_in_places(rows), 1, &strings(1))),
-        Case::new("(f) refused for a closed number", Rows, MAX_ROWS, |rows| string(after_a_call(rows, MAX_TYPES), 9)),
+        Case::twice("(d) behind rows", By::Before, 1_900, |rows| Job::reply(call_among(rows, 0), 1, &ten)),
+        Case::twice("(d) before rows", By::Behind, 1_900, |rows| Job::reply(call_among(0, rows), 1, &ten)),
+        Case::series("(d) among 2,000 rows", By::Place, &[250, 500, 1_000, 2_000], |place| {
+            Job::reply(call_among(place, 2_000 - place), 1, &ten)
+        }),
+        Case::twice("(e) one call in many places", By::Rows, 600, |rows| {
+            Job::reply(call_in_places(rows), 1, &strings(1))
+        }),
+        Case::twice("(f) refused for a closed number", By::Rows, MAX_ROWS, |rows| {
+            reply_of_string(after_a_call(rows, MAX_TYPES), 9)
+        }),
     ]);
     cases
 }
 
-/// A routine of so many rows at its load, its first call and the reply to it: what the picture shows.
-pub fn pictured(rows: usize) -> [Option<Job>; 3] {
-    let load = (rows <= 1_024).then(|| Job::load(routine(rows, 0)));
-    let run = cfg!(feature = "run").then(|| Job::run(record_of(rows, 0), 1_000));
-    [load, run, Some(Job::reply(after_a_call(rows, 0), 1, &leaf(kind::STR, 0, 41)))]
+/// A small loop that goes on for ever, behind or before so many rows: a run of no step, and one of so many.
+pub struct Loop {
+    pub place: &'static str,
+    pub rows: usize,
+    pub none: Job,
+    pub many: Job,
 }
 
-fn row(kind: u8, ty: u16) -> Row {
-    Row { kind, n: 0, ty, word: 0 }
-}
+/// The steps of the longer run.
+pub const LOOP_STEPS: u32 = 1_000;
 
-fn worded(kind: u8, ty: u16, word: usize) -> Row {
-    Row { kind, n: 0, ty, word: word as u32 }
-}
-
-fn counted(kind: u8, ty: u16, n: u8) -> Row {
-    Row { kind, n, ty, word: 0 }
-}
-
-/// An attachment routine of exactly so many rows (even, 40 or more): for teat after teat it locates the teat, looks
-/// whether the way is clear and attaches a cup, and gives up as soon as one of these fails. The table is filled up to
-/// the number of types.
-fn routine_parts(rows: usize, types: usize) -> (Table, Vec<Row>) {
-    const ROWS_A_TEAT: usize = 19;
-    const TEAT: u16 = 1;
-    let mut table = Table::default();
-    let (str, file, bool) = (table.str(), table.file(), table.bool());
-    let strs = table.list(str);
-    let report = table.tuple(&[str, bool]);
-    let locate = table.foreign(&[(TEAT, str)], str);
-    let look = table.foreign(&[(2, file), (3, str)], bool);
-    let attach = table.foreign(&[(4, str), (3, str)], report);
-    fill(&mut table, types);
-
-    let teats = (rows - 2) / ROWS_A_TEAT;
-    let teats = teats - (rows - ROWS_A_TEAT * teats) % 2;
-    let mut made = Vec::new();
-    for teat in 0..teats {
-        let (place, clear) = (10 + 2 * teat, 11 + 2 * teat);
-        made.extend([worded(kind::LET, bool, place), counted(kind::APPLY, str, 1)]);
-        made.extend([worded(kind::FOREIGN, locate, 1), worded(kind::STR, str, teat)]);
-        made.extend([worded(kind::LET, bool, clear), counted(kind::APPLY, bool, 2), worded(kind::FOREIGN, look, 2)]);
-        made.extend([worded(kind::FILE, file, teat), worded(kind::VARIABLE, str, place)]);
-        made.extend([row(kind::IF, bool), worded(kind::VARIABLE, bool, clear)]);
-        made.extend([row(kind::IF, bool), counted(kind::PROJECT, bool, 2), counted(kind::APPLY, report, 2)]);
-        made.extend([worded(kind::FOREIGN, attach, 3), worded(kind::STR, str, 7), worded(kind::VARIABLE, str, place)]);
-    }
-    // What is left to do after the last teat: is the list of remaining strings empty?
-    let left = rows - ROWS_A_TEAT * teats;
-    made.push(row(kind::ISNIL, bool));
-    for string in 0..left / 2 - 1 {
-        made.extend([row(kind::CONS, strs), worded(kind::STR, str, string)]);
-    }
-    made.push(row(kind::NIL, strs));
-    made.resize(rows, row(kind::FALSE, bool));
-    (table, made)
-}
-
-fn routine(rows: usize, types: usize) -> Vec<u8> {
-    let (table, rows) = routine_parts(rows, types);
-    file_of(&table.rows, &rows)
-}
-
-/// The routine as a record, which has room for more rows than a file. Its term is a Bool.
-fn record_of(rows: usize, types: usize) -> Vec<u8> {
-    let (table, rows) = routine_parts(rows, types);
-    written(&table.rows, &[], 1, rows[0].ty, &rows)
-}
-
-/// The routine after it has sent its first call, for a string.
-fn after_a_call(rows: usize, types: usize) -> Vec<u8> {
-    let mut record = record_of(rows, types);
-    evaluator::run(&mut record, &mut vec![0; WORK_BYTES], 1_000);
-    assert_eq!(u16_at(&record, 10), 1, "one call is open");
-    record
-}
-
-/// Types of every form, most of them of eight parts, until the table has so many.
-fn fill(table: &mut Table, types: usize) {
-    let str = table.str();
-    let mut last = str;
-    let mut name = 100;
-    while table.rows.len() < types {
-        let arguments = [0, 1, 2, 3, 4, 5, 6, 7].map(|k| (name + k, if k == 3 { last } else { str }));
-        name += 8;
-        match table.rows.len() % 4 {
-            0 => last = table.list(last),
-            1 => last = table.tuple(&[str, str, last, str, str, last, str, last]),
-            2 => _ = table.native(&arguments, last),
-            _ => _ = table.foreign(&arguments, last),
+pub fn loops() -> Vec<Loop> {
+    let mut loops = Vec::new();
+    for (place, make) in [("behind", loop_behind as fn(usize) -> Vec<u8>), ("before", loop_before)] {
+        for rows in [20, 200, 2_000] {
+            let [none, many] = [0, LOOP_STEPS].map(|budget| Job::run(make(rows), budget));
+            loops.push(Loop { place, rows, none, many });
         }
     }
-}
-
-/// Each type but the first is the tuple of eight times the one before; last a foreign function over the topmost, which
-/// is the only row too.
-fn eightfold_chain(types: usize) -> Vec<u8> {
-    let mut table = Table::default();
-    let mut top = table.str();
-    while table.rows.len() < types - 1 {
-        top = table.tuple(&[top; 8]);
-    }
-    let function = table.foreign(&[(1, top)], top);
-    file_of(&table.rows, &[worded(kind::FOREIGN, function, 1)])
-}
-
-/// A quarter of the rows lets, each of its own name, around a list of as many variables: the name of each is chosen by
-/// the number of lets (the innermost's name; the outermost's is 1) and the variable's place in the list.
-fn names_under_lets(rows: usize, name: impl Fn(usize, usize) -> usize) -> Vec<u8> {
-    let mut table = Table::default();
-    let bool = table.bool();
-    let bools = table.list(bool);
-    let lets = rows / 4;
-    let mut made = vec![row(kind::ISNIL, bool)];
-    for binder in 1..=lets {
-        made.extend([worded(kind::LET, bools, binder), row(kind::TRUE, bool)]);
-    }
-    push_variables(&mut made, rows, bools, bool, |which| name(lets, which));
-    file_of(&table.rows, &made)
-}
-
-/// Functions of eight names, one in the other, about a quarter of the rows, around a list of variables: each the first
-/// name of the innermost function, or the last of the outermost. The table is the same for all sizes.
-fn names_under_functions(rows: usize, near: bool) -> Vec<u8> {
-    const MOST: usize = 253;
-    let levels = rows / 4 - 3;
-    let mut table = Table::default();
-    let bool = table.bool();
-    let bools = table.list(bool);
-    let mut functions = vec![bools];
-    for level in 0..MOST {
-        let names = [1, 2, 3, 4, 5, 6, 7, 8].map(|k| ((8 * level + k) as u16, bool));
-        functions.push(table.native(&names, functions[level]));
-    }
-    // The innermost function is functions[1], with the names 1 to 8.
-    let mut made: Vec<Row> = (1..=levels).rev().map(|level| row(kind::NATIVE, functions[level])).collect();
-    let name = if near { 1 } else { 8 * levels };
-    push_variables(&mut made, rows, bools, bool, |_| name);
-    file_of(&table.rows, &made)
-}
-
-/// A list of variables that fills the rows up.
-fn push_variables(made: &mut Vec<Row>, rows: usize, list: u16, element: u16, name: impl Fn(usize) -> usize) {
-    let variables = (rows - made.len() - 1) / 2;
-    for which in 0..variables {
-        made.extend([row(kind::CONS, list), worded(kind::VARIABLE, element, name(which))]);
-    }
-    made.push(row(kind::NIL, list));
-}
-
-/// The file with another last row, of the same stated type.
-fn with_last_row(mut file: Vec<u8>, kind: u8, word: u8) -> Vec<u8> {
-    let at = file.len() - 8;
-    file[at] = kind;
-    file[at + 4] = word;
-    file
-}
-
-/// A list of strings of the types that `Strings` has, for a reply.
-fn strings(count: usize) -> Vec<Row> {
-    list(STRS, &vec![leaf(kind::STR, STR, 7); count])
-}
-
-/// The first types of the tables below.
-const STR: u16 = 0;
-const BOOL: u16 = 1;
-const STRS: u16 = 2;
-
-/// Str, Bool and List Str.
-fn strings_table() -> Table {
-    let mut table = Table::default();
-    assert_eq!([table.str(), table.bool(), table.list(STR)], [STR, BOOL, STRS]);
-    table
-}
-
-/// Rows one behind the other in a tuple, as a sound record with calls 1 and up open.
-fn side_by_side(mut table: Table, parts: &[(u16, Vec<Row>)], open: &[Entry]) -> Vec<u8> {
-    let types: Vec<u16> = parts.iter().map(|(ty, _)| *ty).collect();
-    let rows: Vec<Vec<Row>> = parts.iter().map(|(_, rows)| rows.clone()).collect();
-    let ty = table.tuple(&types);
-    written(&table.rows, open, open.len() as u32 + 1, ty, &tuple(ty, &rows))
-}
-
-/// A list of strings of about so many rows.
-fn filler(rows: usize) -> (u16, Vec<Row>) {
-    (STRS, strings((rows - 1) / 2))
-}
-
-/// (fix of native f giving f())(), which takes a step and a step again for ever, in the place of a string.
-fn endless(table: &mut Table) -> (u16, Vec<Row>) {
-    let rest = table.native(&[], STR);
-    let whole = table.native(&[(1, rest)], STR);
-    let again = apply(STR, leaf(kind::VARIABLE, rest, 1), &[]);
-    (STR, apply(STR, plain(kind::FIX, rest, &[plain(kind::NATIVE, whole, &[again])]), &[]))
-}
-
-/// The endless loop behind so many rows.
-fn loop_behind(rows: usize) -> Vec<u8> {
-    let mut table = strings_table();
-    let parts = [filler(rows), endless(&mut table)];
-    side_by_side(table, &parts, &[])
-}
-
-/// The endless loop before so many rows.
-fn loop_before(rows: usize) -> Vec<u8> {
-    let mut table = strings_table();
-    let parts = [endless(&mut table), filler(rows)];
-    side_by_side(table, &parts, &[])
-}
-
-/// Entries 1 to the count, of strings.
-fn entries(count: usize, ty: u16) -> Vec<Entry> {
-    (1..=count).map(|number| Entry { number: number as u32, ty }).collect()
-}
-
-/// A list of calls, the open ones in turn, 2,001 rows whatever their number.
-fn waiting_calls(calls: usize) -> Vec<u8> {
-    let futures: Vec<Vec<Row>> = (0..1_000).map(|k| leaf(kind::FUTURE, STR, (k % calls) as u32 + 1)).collect();
-    side_by_side(strings_table(), &[(STRS, list(STRS, &futures))], &entries(calls, STR))
-}
-
-/// The same, and behind it a call to be sent.
-fn with_a_call_left(calls: usize) -> Vec<u8> {
-    let futures: Vec<Vec<Row>> = (0..1_000).map(|k| leaf(kind::FUTURE, STR, (k % calls) as u32 + 1)).collect();
-    let mut table = strings_table();
-    let locate = table.foreign(&[], STR);
-    let parts = [(STRS, list(STRS, &futures)), (STR, apply(STR, leaf(kind::FOREIGN, locate, 900), &[]))];
-    side_by_side(table, &parts, &entries(calls, STR))
-}
-
-/// let x = str 7 in a list of x, so many rows in all; each x becomes a string.
-fn many_names(rows: usize) -> Vec<u8> {
-    let table = strings_table();
-    let body = list(STRS, &vec![leaf(kind::VARIABLE, STR, 1); (rows - 3) / 2]);
-    let rows = evaluator::table::let_in(STRS, 1, leaf(kind::STR, STR, 7), body);
-    written(&table.rows, &[], 1, STRS, &rows)
-}
-
-/// zip of (native a giving a) over a list of strings of so many rows.
-fn zip_of(rows: usize) -> Vec<u8> {
-    let mut table = strings_table();
-    let inner = table.native(&[(1, STR)], STR);
-    let outer = table.native(&[(1, STRS)], STRS);
-    let function = plain(kind::NATIVE, inner, &[leaf(kind::VARIABLE, STR, 1)]);
-    let zip = evaluator::table::counted(kind::ZIP, 1, outer, function);
-    let rows = apply(STRS, zip, &[strings((rows - 5) / 2)]);
-    written(&table.rows, &[], 1, STRS, &rows)
-}
-
-/// Call 1, a list of strings, behind or before so many rows.
-fn call_among(rows: usize, behind: bool) -> Vec<u8> {
-    let mut parts = [(STRS, leaf(kind::FUTURE, STRS, 1)), filler(rows)];
-    if behind {
-        parts.reverse();
-    }
-    side_by_side(strings_table(), &parts, &entries(1, STRS))
-}
-
-/// A list of lists of strings, each of them call 1, so many rows in all.
-fn call_in_places(rows: usize) -> Vec<u8> {
-    let mut table = strings_table();
-    let lists = table.list(STRS);
-    let futures = vec![leaf(kind::FUTURE, STRS, 1); (rows - 2) / 2];
-    side_by_side(table, &[(lists, list(lists, &futures))], &entries(1, STRS))
+    loops
 }
