@@ -61,7 +61,8 @@ pub struct Case {
     pub name: String,
     pub by: By,
     pub sizes: Vec<Size>,
-    /// Whether growth is that of a step: where a larger term takes more of them.
+    /// Whether the growth that counts is that of a step: where a larger term takes more of them, and each walks through what is
+    /// left of it to put names or to move lists.
     pub each_step: bool,
 }
 
@@ -193,11 +194,14 @@ pub fn runs() -> Vec<Case> {
         }),
     ];
     cases.extend(nested(2_048, ", one step", |nested| Job::run(nested.record(), 1)));
-    // Of the nests only ifs wait for what is below them.
-    let ifs = |cases: Vec<Case>| cases.into_iter().filter(|case| case.name.starts_with("(c) if"));
-    cases.extend(ifs(nested(2_048, ", waiting", |nested| Job::run(nested.waiting().0, 1))));
+    // Of the nests only ifs wait for what is below them, and those of cons take one step.
+    let waiting = nested(2_048, ", waiting", |nested| Job::run(nested.waiting().0, 1));
+    cases.extend(waiting.into_iter().filter(|case| case.name.starts_with("(c) if")));
     let to_value = nested(2_048, ", to its value", |nested| Job::run(nested.record(), PLENTY));
-    cases.extend(ifs(to_value).map(Case::each_step));
+    for case in to_value.into_iter().filter(|case| !case.name.starts_with("(c) cons")) {
+        let puts_names = case.name.contains("function") || case.name.contains("let");
+        cases.push(if puts_names { case.each_step() } else { case });
+    }
     for (budget, steps) in [(1, "one step"), (1_000, "1,000 steps")] {
         let among = |name, by, make: fn(usize) -> Vec<u8>| {
             Case::twice(&format!("(d) {steps} {name} rows"), by, 2_000, |rows| Job::run(make(rows), budget))
@@ -207,6 +211,8 @@ pub fn runs() -> Vec<Case> {
     cases.extend([
         Case::twice("(e) a let of many names, one step", By::Rows, 1_600, |rows| Job::run(many_names(rows), 1)),
         Case::twice("(e) zip to its value", By::Rows, 800, |rows| Job::run(zip_of(rows), PLENTY)).each_step(),
+        Case::twice("(e) zip of two lists to its value", By::Rows, 800, |rows| Job::run(zip_of_two(rows), PLENTY))
+            .each_step(),
         Case::twice("(f) the last row fails typing", By::Rows, MAX_ROWS, |rows| {
             Job::run(with_last_record_row(record_of(rows, MAX_TYPES), kind::STR), 1_000)
         }),
@@ -252,9 +258,8 @@ pub fn replies() -> Vec<Case> {
     cases
 }
 
-/// A small loop that goes on for ever, behind or before so many rows: a run of no step, and one of so many.
+/// A small loop that goes on for ever, among so many rows: a run of no step, and one of many.
 pub struct Loop {
-    pub place: &'static str,
     pub rows: usize,
     pub none: Job,
     pub many: Job,
@@ -262,14 +267,14 @@ pub struct Loop {
 
 /// The steps of the longer run.
 pub const LOOP_STEPS: u32 = 1_000;
+/// The fewest rows that a loop stands among, with which the others are compared.
+pub const FEWEST_ROWS: usize = 20;
 
-pub fn loops() -> Vec<Loop> {
-    let mut loops = Vec::new();
-    for (place, make) in [("behind", loop_behind as fn(usize) -> Vec<u8>), ("before", loop_before)] {
-        for rows in [20, 200, 2_000] {
-            let [none, many] = [0, LOOP_STEPS].map(|budget| Job::run(make(rows), budget));
-            loops.push(Loop { place, rows, none, many });
-        }
-    }
-    loops
+/// The loop behind these rows, or before them.
+pub fn loops(behind: bool) -> [Loop; 3] {
+    let make = if behind { loop_behind } else { loop_before };
+    [FEWEST_ROWS, 200, 2_000].map(|rows| {
+        let [none, many] = [0, LOOP_STEPS].map(|budget| Job::run(make(rows), budget));
+        Loop { rows, none, many }
+    })
 }

@@ -31,9 +31,18 @@ pub struct Figures {
     pub given: Given,
     pub times: Times,
     /// The library's time over that at half the size, where that was measured.
-    pub growth: Option<f64>,
+    pub growth: Option<Growth>,
     /// Bytes of stack.
     pub stack: usize,
+}
+
+/// What twice the size costs, of a call and of each of its steps.
+#[derive(Clone, Copy)]
+pub struct Growth {
+    pub of_call: f64,
+    pub of_step: f64,
+    /// Whether the larger call makes more steps.
+    pub more_steps: bool,
 }
 
 /// What the library gives for a job, if the evaluator gives the same and leaves the same bytes.
@@ -60,15 +69,19 @@ pub fn figures(case: &Case) -> Result<Vec<Figures>, String> {
     let times = medians(&of_library.into_iter().chain(of_evaluator).chain(of_limit).collect::<Vec<_>>());
     let (library, others) = times.split_at(case.sizes.len());
     let (evaluator, limit) = others.split_at(shown.len());
-    // The time that grows: of a call, or of each of its steps.
-    let cost = |k: usize| if case.each_step { library[k] / f64::from(given[k][4].max(1)) } else { library[k] };
+    let steps = |k: usize| f64::from(given[k][4].max(1));
+    let growth = |half: usize, whole: usize| {
+        let of_call = library[whole] / library[half];
+        let of_step = of_call * steps(half) / steps(whole);
+        Growth { of_call, of_step, more_steps: steps(whole) > steps(half) }
+    };
     let shown_at = (0..case.sizes.len()).filter(|&k| case.sizes[k].shown);
     let told = shown_at.enumerate().map(|(which, k)| {
         let Size { size, job, .. } = &case.sizes[k];
         let half = case.sizes.iter().position(|other| other.size * 2 == *size);
         let (types, rows) = job.counts();
         let times = Times { library: library[k], evaluator: evaluator[which], limit: limit[which] };
-        let growth = half.map(|half| cost(k) / cost(half));
+        let growth = half.map(|half| growth(half, k));
         Figures { size: *size, rows, types, given: given[k], times, growth, stack: stack_of(job) }
     });
     Ok(told.collect())
@@ -80,22 +93,25 @@ fn stack_of(job: &Job) -> usize {
     stack::used_by(|| _ = library(job, &mut lent))
 }
 
-/// The times of one step of a loop: what a run of many steps takes longer than one of none.
-pub fn step_of_loop(of: &Loop) -> Result<Times, String> {
-    let given = [agreed(&of.none)?, agreed(&of.many)?];
-    if given.map(|given| given[4]) != [0, LOOP_STEPS] {
-        return Err(format!("the loop makes {given:?}"));
+/// The times of one step of each loop: what a run of many steps takes longer than one of none. All take turns.
+pub fn steps_of_loops(loops: &[Loop]) -> Result<Vec<Times>, String> {
+    let jobs: Vec<&Job> = loops.iter().flat_map(|each| [&each.none, &each.many]).collect();
+    for (job, steps) in jobs.iter().zip([0, LOOP_STEPS].into_iter().cycle()) {
+        let given = agreed(job)?;
+        if given[4] != steps {
+            return Err(format!("the loop gives {given:?}, and not {steps} steps"));
+        }
     }
-    let limits = [Limit::of(&of.none), Limit::of(&of.many)];
-    let [none, many] = limits.each_ref().map(|limit| |job: &Job, lent: &mut Lent| limit.play(job, lent));
-    let times = medians(&[
-        (&library, &of.none),
-        (&library, &of.many),
-        (&by_evaluator, &of.none),
-        (&by_evaluator, &of.many),
-        (&none, &of.none),
-        (&many, &of.many),
-    ]);
-    let step = |who: usize| (times[2 * who + 1] - times[2 * who]) / f64::from(LOOP_STEPS);
-    Ok(Times { library: step(0), evaluator: step(1), limit: step(2) })
+    let limits: Vec<Limit> = jobs.iter().map(|job| Limit::of(job)).collect();
+    let play_limits: Vec<_> = limits.iter().map(|limit| |job: &Job, lent: &mut Lent| limit.play(job, lent)).collect();
+    let mut players: Vec<(Player, &Job)> = Vec::new();
+    for (job, play_limit) in jobs.into_iter().zip(&play_limits) {
+        players.extend([(&library as Player, job), (&by_evaluator, job), (play_limit, job)]);
+    }
+    let times = medians(&players);
+    let steps = times.chunks_exact(6).map(|of_loop| {
+        let step = |who: usize| (of_loop[3 + who] - of_loop[who]) / f64::from(LOOP_STEPS);
+        Times { library: step(0), evaluator: step(1), limit: step(2) }
+    });
+    Ok(steps.collect())
 }

@@ -46,31 +46,36 @@ const CURVES: [Curve; 3] = [
     },
 ];
 
-/// Width and height of a panel's axes, and the space around them.
-const WIDE: f64 = 270.0;
-const HIGH: f64 = 290.0;
-const LEFT: f64 = 70.0;
-const TOP: f64 = 58.0;
-const GAP: f64 = 30.0;
-const BELOW: f64 = 48.0;
+/// Width and height of a panel's axes, and the space around them: between panels stand the names of the lines.
+const WIDE: f64 = 240.0;
+const HIGH: f64 = 280.0;
+const LEFT: f64 = 64.0;
+const TOP: f64 = 62.0;
+const GAP: f64 = 100.0;
+const BELOW: f64 = 46.0;
 /// The rows at which the axis begins and ends, and those that it names.
-const ROWS: (f64, f64) = (50.0, 2_620.0);
+const ROWS: (f64, f64) = (52.0, 2_500.0);
 const NAMED_ROWS: [usize; 6] = [64, 128, 256, 512, 1_024, 2_048];
+/// The least distance between two names, one above the other.
+const LINE: f64 = 14.0;
 
-/// The axes' ends, for microseconds: whole powers of ten around all that is drawn.
+/// The axes' ends, for microseconds.
 struct Scale {
     least: f64,
     most: f64,
 }
 
 impl Scale {
+    /// Around all that is drawn: up to a power of ten, down to one or to five times one.
     fn of(panels: &[Panel]) -> Scale {
-        let times =
-            || panels.iter().flat_map(|panel| &panel.points).flat_map(|(_, t)| CURVES.map(|curve| (curve.time)(t)));
+        let all = || panels.iter().flat_map(|panel| &panel.points);
+        let times = || all().flat_map(|(_, times)| CURVES.map(|curve| (curve.time)(times)));
         // A time that the clock cannot tell from none has no place on a logarithmic axis.
         let least = times().filter(|&time| time > 0.0).fold(1.0, f64::min);
         let most = times().fold(10.0, f64::max);
-        Scale { least: 10f64.powf(least.log10().floor()), most: 10f64.powf(most.log10().ceil()) }
+        let below = 10f64.powf(least.log10().floor());
+        let above = 10f64.powf(most.log10().ceil());
+        Scale { least: if least > 5.0 * below { 5.0 * below } else { below }, most: above }
     }
 
     fn y(&self, micros: f64) -> f64 {
@@ -95,7 +100,8 @@ pub fn svg(panels: &[Panel]) -> String {
         "<svg xmlns=\"http://www.w3.org/2000/svg\" viewBox=\"0 0 {width} {height}\" width=\"{width}\" height=\"{height}\" \
          font-family=\"sans-serif\" font-size=\"12\" fill=\"black\">\n\
          <rect width=\"{width}\" height=\"{height}\" fill=\"white\"/>\n\
-         <text x=\"{LEFT}\" y=\"22\" font-size=\"15\">Cost of a call against the rows of a routine</text>\n"
+         <text x=\"{LEFT}\" y=\"22\" font-size=\"15\">Cost of a call against the rows of a routine; \
+         beside each line its name and last figure</text>\n"
     );
     let middle = TOP + HIGH / 2.0;
     let _ = writeln!(
@@ -127,7 +133,7 @@ fn axes(text: &mut String, left: f64, scale: &Scale, numbered: bool) {
             x = x(left, rows)
         );
     }
-    let mut micros = scale.least;
+    let mut micros = 10f64.powf(scale.least.log10().ceil());
     while micros <= scale.most * 1.01 {
         let y = scale.y(micros);
         let _ = writeln!(text, "<path d=\"M{left} {y:.1}h{WIDE}\" stroke=\"#ccc\" stroke-width=\"0.5\"/>");
@@ -169,24 +175,27 @@ fn draw(text: &mut String, left: f64, scale: &Scale, panel: &Panel, curve: &Curv
     }
 }
 
-/// The name of each line at its last point, with the figure there: those of evaluator and library above the upper one and
-/// below the lower one, so that they never meet.
+/// The name of each line beside its last mark, with the figure there. Names that would meet are moved apart; none crosses the
+/// frame: those of a line that ends near it stand outside, and under the others it is interrupted.
 fn names(text: &mut String, left: f64, scale: &Scale, panel: &Panel) {
     let Some((rows, last)) = panel.points.last() else { return };
-    for curve in &CURVES {
-        let micros = (curve.time)(last);
-        let is_upper = match curve.name {
-            "evaluator" => last.evaluator >= last.library,
-            "library" => last.library > last.evaluator,
-            _ => true,
-        };
-        let y = scale.y(micros) + if is_upper { -10.0 } else { 20.0 };
+    let (mark, frame) = (x(left, *rows), left + WIDE);
+    let x = if frame - mark < 20.0 { frame + 5.0 } else { mark + 9.0 };
+    let mut names = CURVES.map(|curve| ((curve.time)(last), curve.name));
+    names.sort_by(|one, other| one.0.total_cmp(&other.0));
+    let mut lowest_free = f64::INFINITY;
+    for (micros, name) in names {
+        let y = (scale.y(micros) + 4.0).min(lowest_free);
+        lowest_free = y - LINE;
         let number = if micros < 10.0 { format!("{micros:.1}") } else { thousands(micros.round() as usize) };
+        let words = format!("{name} {number}");
         let _ = writeln!(
             text,
-            "<text x=\"{:.1}\" y=\"{y:.1}\" text-anchor=\"end\">{} {number}</text>",
-            x(left, *rows) + 6.0,
-            curve.name
+            "<rect x=\"{:.1}\" y=\"{:.1}\" width=\"{:.1}\" height=\"{LINE}\" fill=\"white\"/>\
+             <text x=\"{x:.1}\" y=\"{y:.1}\">{words}</text>",
+            x - 2.0,
+            y - 11.0,
+            6.8 * words.len() as f64
         );
     }
 }

@@ -1,7 +1,7 @@
 //! The tables of a run of the benchmark, and the targets that its figures are held against.
 
-use crate::cases::{self, By, Case, LOOP_STEPS};
-use crate::measure::{figures, step_of_loop, Figures, Times};
+use crate::cases::{self, By, Case, FEWEST_ROWS};
+use crate::measure::{figures, steps_of_loops, Figures, Growth, Times};
 use crate::picture::Panel;
 use crate::players::Given;
 use crate::targets::Targets;
@@ -79,24 +79,33 @@ impl Measured {
     /// A line of an entry's table, what misses a target in bold.
     fn line(&mut self, entry: &str, case: &Case, figures: &Figures) -> String {
         let Figures { size, rows, types, given, times, growth, stack } = figures;
-        let by = case.by.words();
-        let step = if case.each_step { ", each step" } else { "" };
-        let name = format!("{}{step}", case.name);
-        let of = format!("{name}, {size} {by}");
-        let mut held = |target: String, bar, figure, text: String| {
-            let met = self.targets.hold(&target, bar, figure, &of);
+        let (name, by) = (&case.name, case.by.words());
+        let of = format!("{name}, {by} {size}");
+        let mut held = |target: &str, bar, figure, text: String| {
+            let met = self.targets.hold(&format!("{entry}: {target}"), bar, figure, &of);
             if met {
                 text
             } else {
                 format!("**{text}**")
             }
         };
-        let ratio = held(format!("{entry}: ratio to the evaluator"), RATIO, times.ratio(), digits(times.ratio()));
-        let growth = growth.map_or("-".to_string(), |growth| {
-            held(format!("{entry}: twice the {by}, growth"), GROWTH, growth, digits(growth))
+        let ratio = held("time over the evaluator's", RATIO, times.ratio(), digits(times.ratio()));
+        let growth = growth.map_or("-".to_string(), |Growth { of_call, of_step, more_steps }| {
+            let [call, step] = [of_call, of_step].map(digits);
+            match (case.each_step, more_steps) {
+                (true, _) => {
+                    let step = held(&format!("growth of a step, twice the {by}"), GROWTH, of_step, step);
+                    format!("{call} a call, {step} a step")
+                }
+                (false, true) => {
+                    let call = held(&format!("growth, twice the {by}"), GROWTH, of_call, call);
+                    format!("{call} a call, {step} a step")
+                }
+                (false, false) => held(&format!("growth, twice the {by}"), GROWTH, of_call, call),
+            }
         });
-        let stack = held(format!("{entry}: bytes of stack"), STACK, *stack as f64, stack.to_string());
-        let by = if matches!(case.by, By::Rows | By::Types) { by.to_string() } else { format!("{size} {by}") };
+        let stack = held("bytes of stack", STACK, *stack as f64, stack.to_string());
+        let by = if matches!(case.by, By::Rows | By::Types) { by.to_string() } else { format!("{by} {size}") };
         format!(
             "| {name} | {} | {rows} | {types} | {} | {} | {ratio} | {} | {:.1} | {growth} | {by} | {stack} |",
             words(entry, *given),
@@ -110,30 +119,31 @@ impl Measured {
     /// The table of a step of the small loop.
     fn loops(&mut self) -> Result<(), String> {
         self.report.say(&format!(
-            "| a step of a loop, of {LOOP_STEPS} | library, ns | evaluator, ns | ratio | limit, ns | of limit | over 20 rows |\n\
+            "| a step of a small loop, ns | library | evaluator | ratio | limit | of limit | over {FEWEST_ROWS} rows |\n\
              |---|---:|---:|---:|---:|---:|---:|"
         ));
-        let mut fewest: Option<Times> = None;
-        for each in cases::loops() {
-            let of = format!("{} {} rows", each.place, each.rows);
-            let times = step_of_loop(&each).map_err(|fault| format!("loop {of}: {fault}"))?;
-            if each.rows == 20 {
-                fewest = Some(times);
+        for (place, behind) in [("behind", true), ("before", false)] {
+            let loops = cases::loops(behind);
+            let all = steps_of_loops(&loops).map_err(|fault| format!("loop {place} rows: {fault}"))?;
+            for (each, times) in loops.iter().zip(&all) {
+                let line = self.step(place, each.rows, times, times.library / all[0].library);
+                self.report.say(&line);
             }
-            let level = times.library / fewest.map_or(f64::NAN, |fewest| fewest.library);
-            let target = format!("a step {} 2,000 rows over one {} 20", each.place, each.place);
-            let met = each.rows == 20 || self.targets.hold(&target, LEVEL, level, &of);
-            let level = if met { digits(level) } else { format!("**{}**", digits(level)) };
-            let ratio = times.ratio();
-            self.targets.hold("a step of the loop: ratio to the evaluator", RATIO, ratio, &of);
-            let [library, evaluator, limit] = [times.library, times.evaluator, times.limit].map(|us| us * 1e3);
-            self.report.say(&format!(
-                "| {of} | {library:.1} | {evaluator:.1} | {ratio:.4} | {limit:.1} | {:.1} | {level} |",
-                times.of_limit()
-            ));
         }
         self.report.say("");
         Ok(())
+    }
+
+    /// A line of that table; level is the step's time over that of a step among the fewest rows.
+    fn step(&mut self, place: &str, rows: usize, times: &Times, level: f64) -> String {
+        let of = format!("{place} {rows} rows");
+        let target = format!("a step {place} many rows, over one {place} {FEWEST_ROWS}");
+        let is_level = rows == FEWEST_ROWS || self.targets.hold(&target, LEVEL, level, &of);
+        self.targets.hold("a step of the loop: time over the evaluator's", RATIO, times.ratio(), &of);
+        let [library, evaluator, limit] = [times.library, times.evaluator, times.limit].map(|micros| micros * 1e3);
+        let level = if is_level { digits(level) } else { format!("**{level:.2}**") };
+        let (ratio, of_limit) = (times.ratio(), times.of_limit());
+        format!("| {of} | {library:.1} | {evaluator:.1} | {ratio:.3} | {limit:.1} | {of_limit:.1} | {level} |")
     }
 }
 

@@ -265,6 +265,18 @@ pub fn zip_of(rows: usize) -> Vec<u8> {
     written(&table.rows, &[], 1, STRS, &rows)
 }
 
+/// zip of (native a, b giving b) over two lists of strings, of so many rows in all.
+pub fn zip_of_two(rows: usize) -> Vec<u8> {
+    let mut table = strings_table();
+    let inner = table.native(&[(1, STR), (2, STR)], STR);
+    let outer = table.native(&[(1, STRS), (2, STRS)], STRS);
+    let function = plain(kind::NATIVE, inner, &[leaf(kind::VARIABLE, STR, 2)]);
+    let zip = evaluator::table::counted(kind::ZIP, 3, outer, function);
+    let list = strings((rows - 6) / 4);
+    let rows = apply(STRS, zip, &[list.clone(), list]);
+    written(&table.rows, &[], 1, STRS, &rows)
+}
+
 /// Call 1, a list of strings, behind so many rows and before so many.
 pub fn call_among(before: usize, behind: usize) -> Vec<u8> {
     let parts = [filler(before), (STRS, leaf(kind::FUTURE, STRS, 1)), filler(behind)];
