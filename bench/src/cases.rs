@@ -193,15 +193,7 @@ pub fn runs() -> Vec<Case> {
             Job::run(with_a_call_left(calls), 1_000)
         }),
     ];
-    cases.extend(nested(2_048, ", one step", |nested| Job::run(nested.record(), 1)));
-    // Of the nests only ifs wait for what is below them, and those of cons take one step.
-    let waiting = nested(2_048, ", waiting", |nested| Job::run(nested.waiting().0, 1));
-    cases.extend(waiting.into_iter().filter(|case| case.name.starts_with("(c) if")));
-    let to_value = nested(2_048, ", to its value", |nested| Job::run(nested.record(), PLENTY));
-    for case in to_value.into_iter().filter(|case| !case.name.starts_with("(c) cons")) {
-        let puts_names = case.name.contains("function") || case.name.contains("let");
-        cases.push(if puts_names { case.each_step() } else { case });
-    }
+    cases.extend(nested_runs());
     for (budget, steps) in [(1, "one step"), (1_000, "1,000 steps")] {
         let among = |name, by, make: fn(usize) -> Vec<u8>| {
             Case::twice(&format!("(d) {steps} {name} rows"), by, 2_000, |rows| Job::run(make(rows), budget))
@@ -217,6 +209,19 @@ pub fn runs() -> Vec<Case> {
             Job::run(with_last_record_row(record_of(rows, MAX_TYPES), kind::STR), 1_000)
         }),
     ]);
+    cases
+}
+
+/// Runs of each nest. Only ifs wait for what is below them, and a nest of cons takes one step.
+fn nested_runs() -> Vec<Case> {
+    let mut cases = nested(MAX_ROWS, ", one step", |nested| Job::run(nested.record(), 1));
+    let waiting = nested(MAX_ROWS, ", waiting", |nested| Job::run(nested.waiting().0, 1));
+    cases.extend(waiting.into_iter().filter(|case| case.name.starts_with("(c) if")));
+    let to_value = nested(MAX_ROWS, ", to its value", |nested| Job::run(nested.record(), PLENTY));
+    for case in to_value.into_iter().filter(|case| !case.name.starts_with("(c) cons")) {
+        let puts_names = case.name.contains("function") || case.name.contains("let");
+        cases.push(if puts_names { case.each_step() } else { case });
+    }
     cases
 }
 
@@ -236,7 +241,7 @@ pub fn replies() -> Vec<Case> {
             reply_of_string(waiting_calls(calls), 1)
         }),
     ];
-    let innermost = nested(2_048, "", |nested| {
+    let innermost = nested(MAX_ROWS, "", |nested| {
         let (record, row) = nested.waiting();
         Job::reply(record, 1, &[row])
     });

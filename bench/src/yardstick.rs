@@ -12,14 +12,18 @@ const LEVEL: f64 = 1.3;
 /// The yardstick's column of names.
 const WIDE: usize = 48;
 
-/// The bars' verdict on a table; an error if it is none, or not whole.
+/// The bars' verdict on a table; an error if it is none, or not whole, or has a wrong result.
 pub fn judged(text: &str) -> Result<Targets, String> {
+    if let Some(wrong) =
+        text.lines().find(|line| line.split_whitespace().any(|word| word == "WRONG") && !line.starts_with("worst"))
+    {
+        return Err(format!("a result is wrong: {wrong}"));
+    }
     let mut targets = Targets::default();
-    let ratios = section(text, "case ")?;
-    for line in ratios {
+    for line in section(text, "case ")? {
         let (name, words) = columns(line)?;
         // Behind the name: rows, answer (of one word or two), then seven numbers, the last but one being the ratio.
-        let ratio = if words.contains(&"WRONG") { f64::INFINITY } else { number(words.iter().rev().nth(1), line)? };
+        let ratio = number(words.iter().rev().nth(1), line)?;
         targets.hold(&format!("{}, over resumed", group(name)), RATIO, ratio, name);
     }
     for line in section(text, "ns a row ")? {
@@ -67,5 +71,38 @@ fn group(name: &str) -> &'static str {
         _ if name.contains("run ") => "runs",
         _ if name.contains("load") => "loads",
         _ => "replies",
+    }
+}
+
+#[cfg(test)]
+mod tests {
+    use super::*;
+
+    /// A table of the yardstick's form: a load at this ratio, its growth a row, and steps of the loop.
+    fn table(ratio: &str, growth: &str) -> String {
+        let line = |name: &str, rest: &str| format!("{name:WIDE$} {rest}\n");
+        let mut text = line("case", "rows answer steps library resumed restarting limit /resumed /restart.");
+        text += &line("f load refused 9 at row 1,023", &format!("1024 refused 9 0 100 90 90 10 {ratio} 1.00"));
+        text += "\nns a step of the loop\n";
+        for place in ["behind", "before"] {
+            text += &line(&format!("{place} 20 rows"), "200.0 30.0 40.0");
+            text += &line(&format!("{place} 2,000 rows"), "220.0 30.0 40.0");
+        }
+        text += "\nns a row (g: a type) of load\n    half whole whole/half\n";
+        text + &line("g types of two parts", &format!("10.00 11.00 {growth} 10.00 10.00 1.00"))
+    }
+
+    #[test]
+    fn figures_are_held_against_the_bars() {
+        let missed = |text: &str| judged(text).map(|targets| targets.missed().len());
+        assert_eq!(missed(&table("1.50", "1.15")), Ok(0));
+        assert_eq!(missed(&table("1.51", "1.16")), Ok(2));
+    }
+
+    #[test]
+    fn a_table_that_is_wrong_or_not_whole_is_refused() {
+        assert!(judged(&table("-", "1.00")).is_err());
+        assert!(judged(&format!("{}WRONG f load", table("1.00", "1.00"))).is_err());
+        assert!(judged(table("1.00", "1.00").split("ns a row").next().unwrap_or("")).is_err());
     }
 }
