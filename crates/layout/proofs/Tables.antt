@@ -4,8 +4,9 @@ use mathlib.Core.Path.{_≡_, refl, ap, sym, _∙_}
 use mathlib.Core.List.{List, [], _∷_, _++_, append-assoc, append-nil}
 use native.Mathlib.Omega.{arith}
 use native.Mathlib.Nat.{suc-add, zero-add}
+use native.Mathlib.Numerals.{towards-suc}
 use lib.ListN.{length, getD, take, drop, set, length-append, length-drop, take-append-drop}
-use lib.Seq.{drop-drop, drop-append-le, take-at, drop-at, length-take-le, set-split, sets, sets-eq}
+use lib.Seq.{drop-cons, drop-drop, drop-append-le, take-at, drop-at, length-take-le, set-split, sets, sets-eq}
 use Rattle.meaning.specs.Bytes.{Layout, number, width, read, write, reads, typeRow, termRow}
 use Rattle.meaning.proofs.Bytes.Layouts.{Fits, length-reads, reads-at, length-write, read-write}
 use Rattle.layout.specs.Rows.{typeTable, rowTable}
@@ -126,3 +127,21 @@ type-table-cut s base n k e h =
     let g : k ≤ length (drop base s) = rw length-drop (omega arith) in
     let q : length (take k (drop base s)) / 36 ≡ n = omega (arith, length-take-le k (drop base s) g) in
     rw q (reads-cut typeRow n k (drop base s) (rw type-width (omega arith)) g)
+
+-- A row copied byte by byte ------------------------------------------------------------------------------------------
+
+abbrev bytesFrom : List ℕ → ℕ → ℕ → List ℕ
+bytesFrom s from zero = []
+bytesFrom s from (suc n) = getD s from 0 ∷ bytesFrom s (suc from) n
+
+taken-bytes : (n : ℕ) (s : List ℕ) (from : ℕ) → from + n ≤ length s → take n (drop from s) ≡ bytesFrom s from n
+taken-bytes zero s from h = refl
+taken-bytes (suc n) s from h = rw (drop-cons s from 0 (omega arith)) (ap (λ (r : List ℕ). getD s from 0 ∷ r) (taken-bytes n s (suc from) (omega arith)))
+
+pub row-stored : (d s : List ℕ) (at from : ℕ) → at + 8 ≤ length d → from + 8 ≤ length s
+    → set (set (set (set (set (set (set (set d at (getD s from 0)) (at + 1) (getD s (from + 1) 0)) (at + 2) (getD s (from + 2) 0)) (at + 3) (getD s (from + 3) 0)) (at + 4) (getD s (from + 4) 0)) (at + 5) (getD s (from + 5) 0)) (at + 6) (getD s (from + 6) 0)) (at + 7) (getD s (from + 7) 0)
+      ≡ take at d ++ (take 8 (drop from s) ++ drop (at + 8) d)
+row-stored d s at from h g = stored ∙ sets-eq (bytesFrom s from 8) d at h ∙ rw (taken-bytes 8 s from g, append-assoc)
+  where
+    stored : set (set (set (set (set (set (set (set d at (getD s from 0)) (at + 1) (getD s (from + 1) 0)) (at + 2) (getD s (from + 2) 0)) (at + 3) (getD s (from + 3) 0)) (at + 4) (getD s (from + 4) 0)) (at + 5) (getD s (from + 5) 0)) (at + 6) (getD s (from + 6) 0)) (at + 7) (getD s (from + 7) 0) ≡ sets d at (bytesFrom s from 8)
+    stored = simp towards-suc

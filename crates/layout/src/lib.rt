@@ -229,6 +229,29 @@ pub fn copy_to(dst: &mut [u8], at: usize, src: &[u8], from: usize, n: usize)
     }
 }
 
+// The same of one row: all of it is read before it is written, so that it goes at once.
+pub fn copy_row(dst: &mut [u8], at: usize, src: &[u8], from: usize)
+    requires { ⌜ (at + 8 ≤ length (now dst)) × (from + 8 ≤ length (now src)) ⌝ }
+    ensures { λ _. ⌜ now (dst .exit) ≡ take at (now (dst .entry)) ++ (take 8 (drop from (now (src .entry))) ++ drop (at + 8) (now (dst .entry))) ⌝ }
+{
+    let a = src[from];
+    let b = src[from + 1];
+    let c = src[from + 2];
+    let d = src[from + 3];
+    let e = src[from + 4];
+    let f = src[from + 5];
+    let g = src[from + 6];
+    let h = src[from + 7];
+    dst[at] = a;
+    dst[at + 1] = b;
+    dst[at + 2] = c;
+    dst[at + 3] = d;
+    dst[at + 4] = e;
+    dst[at + 5] = f;
+    dst[at + 6] = g;
+    dst[at + 7] = h;
+}
+
 // Zeros from place `from` up to place `to`.
 pub fn clear(dst: &mut [u8], from: usize, to: usize)
     requires { ⌜ (from ≤ to) × (to ≤ length (now dst)) ⌝ }

@@ -146,13 +146,7 @@ fn enter(left: &mut [u8], right: &[u8], frames: &mut [u32], s: Stand) -> Stand
     let r = s.r;
     let d = s.d;
     let n = terms::children(layout::row_at(right, r));
-    layout::copy_to(
-        left,
-        layout::TERM_ROW * l,
-        right,
-        layout::TERM_ROW * r,
-        layout::TERM_ROW,
-    );
+    layout::copy_row(left, layout::TERM_ROW * l, right, layout::TERM_ROW * r);
     frames[d] = entered_number(l, n);
     Stand {
         l: l + 1,
@@ -433,12 +427,11 @@ pub fn back_up(left: &[u8], right: &mut [u8], frames: &[u32], s: Stand) -> Stand
     }
     let at = row_in(frames[d - 1]);
     if at + 1 == l {
-        layout::copy_to(
+        layout::copy_row(
             right,
             layout::TERM_ROW * (r - 1),
             left,
             layout::TERM_ROW * (l - 1),
-            layout::TERM_ROW,
         );
         return Stand {
             l: l - 1,

@@ -74,7 +74,7 @@ fn settle_rows(work: &mut [u8], rows: &[u8], value: &[u8], number: u32) -> usize
             out += value.len();
             i += 1;
         } else {
-            layout::copy_to(work, out, rows, layout::TERM_ROW * i, layout::TERM_ROW);
+            layout::copy_row(work, out, rows, layout::TERM_ROW * i);
             out += layout::TERM_ROW;
             i += 1;
         }

@@ -35,7 +35,7 @@ back-up-spec =
     let pre = c .before .before .before .before .before .before .before .before .before .before .before .pre in
     let e : args .s .d ≡ suc (args .s .d - 1) = omega (arith, c .before .before .before .before .before .before .before .if1 .left) in
     let z : args .s .l ≡ c .before .before .before .before .before .row-in .result + 1 = sym (c .before .before .before .before .if2 .taken) in
-    at-row (args .left .now) (args .right .now) (args .frames .now) (args .s) (pre .0) (c .before .before .copy-to .last .0) (args .s .d - 1) e (z ∙ ap (λ (i : ℕ). i + 1) (c .before .before .before .before .before .row-in .ensures)) (pre .1) (omega (arith, pre .0 .left-long)) (c .before .before .copy-to .ensures))
+    at-row (args .left .now) (args .right .now) (args .frames .now) (args .s) (pre .0) (c .before .before .copy-row .last .0) (args .s .d - 1) e (z ∙ ap (λ (i : ℕ). i + 1) (c .before .before .before .before .before .row-in .ensures)) (pre .1) (omega (arith, pre .0 .left-long)) (c .before .before .copy-row .ensures))
     -- returns-3
     (λ c.
     let args = c .before .before .before .before .before .before .before .args in

@@ -31,7 +31,7 @@ enter-spec =
     let args = c .before .before .before .before .before .before .before .before .before .before .args in
     let n = c .before .before .before .before .before .children .ensures .0 ∙ ap (λ (x : List ℕ). arity (rowOf x .head)) (c .before .before .before .before .before .before .row-at .ensures) in
     record {
-      bytes = unfold copied in c .before .before .before .copy-to .ensures;
+      bytes = unfold copied in c .before .before .before .copy-row .ensures;
       numbers = ap (set (args .frames .now) (args .s .d)) (c .entered-number .ensures ∙ ap (enteredNumber (args .s .l)) n);
       few = rw n at (c .before .before .before .before .before .children .ensures .1);
       stand = unfold moved in refl;

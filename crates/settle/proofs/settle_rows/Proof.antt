@@ -64,9 +64,9 @@ settle-rows-spec =
     let z = row-table-length (a .rows .now) in
     let y = row-table-length (a .value .now) in
     let d = count-due (a .number) (rowTable (a .value .now)) (rowTable (a .rows .now)) (l .i) [] _ (omega arith) (row-table-at (a .rows .now) (l .i) [] (omega arith) ∙ sym (row-at .ensures)) _ _ (sym (is-due .ensures) ∙ c .before .before .before .before .if1 .taken) refl refl in (omega arith, omega arith, copy-to .kept .0 ∙ l .inv .2, push-due (a .number) (rowTable (a .value .now)) (rowTable (a .rows .now)) (l .i) [] _ (omega arith) (row-table-at (a .rows .now) (l .i) [] (omega arith) ∙ sym (row-at .ensures)) (a .work .now) _ _ _ (l .inv .1) (l .inv .3) (a .value .now) _ (sym (is-due .ensures) ∙ c .before .before .before .before .if1 .taken) (table-bytes (a .value .now) (λ j. omega (arith, c .before .before .before .before .before .before .before .before .before .before .shared-slice-known2 .given j)) (c .before .before .before .before .before .before .before .before .before .before .before .before .before .pre .1)) refl (copy-to .ensures)))
-    -- mul-copy-to
+    -- mul-copy-row
     (λ c. omega arith)
-    -- copy-to-requires-2
+    -- copy-row-requires
     (λ c κs.
     let a = c .before .before .before .before .before .before .before .before .before .before .args in
     let l = c .before .before .before .before .before .loop in
@@ -92,10 +92,10 @@ settle-rows-spec =
     let l = c .before .before .before .before .before .before .before .before .loop in
     let row-at = c .before .before .before .before .before .before .row-at in
     let is-due = c .before .before .before .before .before .is-due in
-    let copy-to2 = c .before .before .copy-to2 in
+    let copy-row = c .before .before .copy-row in
     let z = row-table-length (a .rows .now) in
     let y = row-table-length (a .value .now) in
-    let d = count-other (a .number) (rowTable (a .value .now)) (rowTable (a .rows .now)) (l .i) [] _ (omega arith) (row-table-at (a .rows .now) (l .i) [] (omega arith) ∙ sym (row-at .ensures)) _ (sym (is-due .ensures) ∙ c .before .before .before .before .if1 .left) refl in (omega arith, omega arith, copy-to2 .kept .0 ∙ l .inv .2, push-other (a .number) (rowTable (a .value .now)) (rowTable (a .rows .now)) (l .i) [] _ (omega arith) (row-table-at (a .rows .now) (l .i) [] (omega arith) ∙ sym (row-at .ensures)) (a .work .now) _ _ _ (l .inv .1) (l .inv .3) (a .rows .now) (λ j. omega (arith, c .before .before .before .before .before .before .before .before .before .before .before .shared-slice-known .given j)) (omega arith) (row-at .ensures) (sym (is-due .ensures) ∙ c .before .before .before .before .if1 .left) (copy-to2 .ensures)))
+    let d = count-other (a .number) (rowTable (a .value .now)) (rowTable (a .rows .now)) (l .i) [] _ (omega arith) (row-table-at (a .rows .now) (l .i) [] (omega arith) ∙ sym (row-at .ensures)) _ (sym (is-due .ensures) ∙ c .before .before .before .before .if1 .left) refl in (omega arith, omega arith, copy-row .kept .0 ∙ l .inv .2, push-other (a .number) (rowTable (a .value .now)) (rowTable (a .rows .now)) (l .i) [] _ (omega arith) (row-table-at (a .rows .now) (l .i) [] (omega arith) ∙ sym (row-at .ensures)) (a .work .now) _ _ _ (l .inv .1) (l .inv .3) (a .rows .now) (λ j. omega (arith, c .before .before .before .before .before .before .before .before .before .before .before .shared-slice-known .given j)) (omega arith) (row-at .ensures) (sym (is-due .ensures) ∙ c .before .before .before .before .if1 .left) (copy-row .ensures)))
     -- same-length
     (λ c. c .before .loop .inv .2)
     -- returns
