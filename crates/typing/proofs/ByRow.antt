@@ -130,7 +130,7 @@ behind-in l es rows p e h = rw (lt-ltb p rows h) (e p h)
 
 -- Children in order ----------------------------------------------------------------------------------------------
 
-list-length : {n : ℕ} (us : Tys n) → length (list us) ≡ n
+pub list-length : {n : ℕ} (us : Tys n) → length (list us) ≡ n
 unfolding list
 list-length ⟨⟩ = refl
 list-length (t ▹ us) = ap suc (list-length us)

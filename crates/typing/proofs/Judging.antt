@@ -43,7 +43,7 @@ module _ (s b : List ℕ) (i k n ty w : ℕ) (h : i < length b / 8) (e : k ∷ n
   unfolding judged
   judged-in Γ = ap (judged F Γ) (tree-in b i k n ty w h e)
 
-  judged-plain : (Γ : Ctx) → (k ≡ 11 → ⊥) → judged F Γ (treeAt l i) ≡ ruleOk F Γ (headFrom k n w) ty (tys (grove l (i + 1) (arity (headFrom k n w))))
+  pub judged-plain : (Γ : Ctx) → (k ≡ 11 → ⊥) → judged F Γ (treeAt l i) ≡ ruleOk F Γ (headFrom k n w) ty (tys (grove l (i + 1) (arity (headFrom k n w))))
   unfolding rowOk belowOk
   judged-plain Γ q =
       judged-in Γ

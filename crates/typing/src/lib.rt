@@ -1,7 +1,7 @@
 // The first row that fails typing: rows are judged in order, each by its own rule and the binders around it.
 mod names;
 mod scopes;
-mod stated;
+pub mod stated;
 
 use layout::Found;
 ghost use mathlib.Core.Path.{_≡_};
