@@ -31,7 +31,7 @@ use Rattle.layout.specs.Rows.{typeTable, rowTable, termRows}
 use Rattle.layout.proofs.Laws.{read-front, term-row}
 use Rattle.layout.proofs.Tables.{row-table-length, row-table-at, row-table-cut}
 use Rattle.sound.proofs.Laws.{fails, passes}
-use Rattle.settle.specs.Settled.{settled, rowsVerdict}
+use Rattle.settle.specs.Settled.{settled, goodVerdict, rowsVerdict}
 use Rattle.settle.proofs.Trees.{size-settled}
 
 -- The header -----------------------------------------------------------------------------------------------------
@@ -161,20 +161,20 @@ unfolding treeOf trees top tyOf rowOf
 top-type [] h = absurd (omega arith)
 top-type (r ∷ rs) h = refl
 
-module _ (form : ℕ → Form) (rows : List ℕ) (h : 8 ≤ length rows) (t : ℕ) (e : t ≡ number 2 (drop 2 rows)) (ty : ℕ) where
-  first-type : tyOf (treeOf (termRows rows)) ≡ t
-  first-type =
+first-type : (rows : List ℕ) → 8 ≤ length rows → (t : ℕ) → t ≡ number 2 (drop 2 rows) → tyOf (treeOf (termRows rows)) ≡ t
+first-type rows h t e =
       top-type (rowTable rows) (omega (arith, row-table-length rows))
       ∙ ap typeNo (row-table-at rows 0 [] (omega arith) ∙ term-row 0 rows)
       ∙ sym e
 
+module _ (form : ℕ → Form) (rows : List ℕ) (h : 8 ≤ length rows) (t : ℕ) (e : t ≡ number 2 (drop 2 rows)) (ty : ℕ) where
   pub another-type : (t ≡ ty → ⊥) → some 0 ≡ replyBad form ty (treeOf (termRows rows))
   unfolding replyBad stop
-  another-type n = rw (first-type, ne-eqb t ty n) refl
+  another-type n = rw (first-type rows h t e, ne-eqb t ty n) refl
 
   pub same-type : t ≡ ty → firstBad form empty (treeOf (termRows rows)) ≡ replyBad form ty (treeOf (termRows rows))
   unfolding replyBad stop
-  same-type n = rw (first-type, eq-eqb t ty n) refl
+  same-type n = rw (first-type rows h t e, eq-eqb t ty n) refl
 
 -- Refusals 13 to 16 ----------------------------------------------------------------------------------------------
 
@@ -205,6 +205,34 @@ module _ (types rows value : List ℕ) (k ty room : ℕ) where
           pub all-good : t ≤ room → Accepted ≡ rowsVerdict types rows value k ty room
           unfolding rowsVerdict refuseShape refuse require
           all-good h = rw (← type-count, ← a, ← b, ← d, ← te, le-leb t room h) refl
+
+-- Rows that are good ----------------------------------------------------------------------------------------------
+
+pub good-rows : (types rows value : List ℕ) (k ty room : ℕ) → shape 1 (length types / 36) (rowTable value) ≡ Whole → firstBad (formOf (typeTable types)) empty (treeOf (termRows value)) ≡ none
+    → goodVerdict rows value k ty room ≡ rowsVerdict types rows value k ty room
+unfolding rowsVerdict goodVerdict refuseShape replyBad
+good-rows types rows value k ty room w g =
+    let count : length (typeTable types) ≡ length types / 36 = length-reads typeRow (length types / 36) types in
+    rw (count, w, g)
+
+module _ (rows value : List ℕ) (k ty room : ℕ) where
+  pub other-kind : (i : ℕ) → some i ≡ firstNot replyKind (rowTable value) → Refused (ReplyKind i) ≡ goodVerdict rows value k ty room
+  unfolding goodVerdict refuse
+  other-kind i e = rw (← e)
+
+  module _ (b : none ≡ firstNot replyKind (rowTable value)) (h : 8 ≤ length value) (t : ℕ) (e : t ≡ number 2 (drop 2 value)) where
+    pub other-type : (t ≡ ty → ⊥) → Refused (ReplyTyping 0) ≡ goodVerdict rows value k ty room
+    unfolding goodVerdict refuse stop
+    other-type n = rw (← b, first-type value h t e, ne-eqb t ty n)
+
+    module _ (q : t ≡ ty) (n : ℕ) (ne : n ≡ length (settled k (rowTable value) (rowTable rows))) where
+      pub good-no-room : room < n → Refused ReplyRoom ≡ goodVerdict rows value k ty room
+      unfolding goodVerdict refuse require stop
+      good-no-room l = rw (← b, first-type value h t e, eq-eqb t ty q, ← ne, lt-leb n room l)
+
+      pub good-taken : n ≤ room → Accepted ≡ goodVerdict rows value k ty room
+      unfolding goodVerdict refuse require stop
+      good-taken l = rw (← b, first-type value h t e, eq-eqb t ty q, ← ne, le-leb n room l)
 
 -- The verdict ----------------------------------------------------------------------------------------------------
 

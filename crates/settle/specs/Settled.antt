@@ -3,11 +3,13 @@ use Prim.Native.Nat.{ℕ, _≤_, _*_, _/_}
 use mathlib.Core.Path.{_≡_}
 use mathlib.Core.Bool.{Bool, true, cond}
 use mathlib.Core.List.{List, [], _∷_, _++_}
+use mathlib.Core.Option.{none}
 use lib.Dec.{eqb, leb}
 use lib.ListN.{length, take, drop, replicate}
 use Rattle.meaning.specs.Bytes.{_∧ᵇ_, writes, termRow}
 use Rattle.meaning.specs.Types.{formOf}
-use Rattle.meaning.specs.Terms.{kindNo, wordNo, shape, treeOf}
+use Rattle.meaning.specs.Terms.{tyOf, kindNo, wordNo, shape, treeOf}
+use Rattle.meaning.specs.Typing.{stop}
 use Rattle.meaning.specs.Records.{stateOf, version, firstNot, sound}
 use Rattle.meaning.specs.Entries.{require, refuse, refuseShape, replyKind, replyBad, replyVerdict}
 use Rattle.meaning.specs.declared.Verdict.{Verdict}
@@ -38,6 +40,13 @@ rowsVerdict types rows value k ty room =
     (refuse (firstNot replyKind (rowTable value)) ReplyKind
     (refuse (replyBad (formOf (typeTable types)) ty (treeOf (termRows value))) ReplyTyping
     (require (leb (length (settled k (rowTable value) (rowTable rows))) room) ReplyRoom Accepted)))
+
+-- refusals 14 to 16 where the reply's rows are whole and well typed
+unfoldable pub goodVerdict : List ℕ → List ℕ → ℕ → ℕ → ℕ → Verdict
+goodVerdict rows value k ty room =
+    refuse (firstNot replyKind (rowTable value)) ReplyKind
+    (refuse (stop (eqb (tyOf (treeOf (termRows value))) ty) none) ReplyTyping
+    (require (leb (length (settled k (rowTable value) (rowTable rows))) room) ReplyRoom Accepted))
 
 -- a sound record and a reply that is accepted
 pub record Taken (m : Limits) (kept answer : List ℕ) : Type 0 where

@@ -16,7 +16,7 @@ ghost use Rattle.meaning.specs.Records.{firstNot, sound, stateOf};
 ghost use Rattle.meaning.specs.Entries.{replyHeadOk, replyKinds, replyKind, replyBad, replyVerdict};
 ghost use Rattle.terms.specs.Tables.{Closed};
 ghost use Rattle.sound.specs.Ready.{Ready};
-ghost use Rattle.settle.specs.Settled.{rowsVerdict};
+ghost use Rattle.settle.specs.Settled.{goodVerdict, rowsVerdict};
 
 // The edition of the rows that are read.
 const VERSION: u16 = 1;
@@ -25,6 +25,9 @@ const VERSION: u16 = 1;
 const COUNT_AT: usize = 4;
 
 const ZEROS_AT: usize = 6;
+
+// Where a row has its type.
+const TYPE_AT: usize = 2;
 
 // Refusal 11: the header, and the length that its count needs.
 fn head_ok(answer: &[u8], m: Limits) -> bool
@@ -93,14 +96,14 @@ fn first_wrong(types: &[u8], rows: &[u8], ty: u16) -> Found
     requires { ⌜ (8 ≤ length (now rows)) × (length (now rows) ≤ 16384) × Closed (termRows (now rows)) (length (now rows) / 8) ⌝ }
     ensures { λ r. ⌜ found r ≡ replyBad (formOf (typeTable (now (types .entry)))) ty (treeOf (termRows (now (rows .entry)))) ⌝ }
 {
-    if layout::u16_at(rows, 2) != ty {
+    if layout::u16_at(rows, TYPE_AT) != ty {
         return Found::At(0);
     }
     typing::first_bad(types, rows)
 }
 
-// Refusals 13 to 16.
-fn rows_verdict(types: &[u8], rows: &[u8], value: &[u8], number: u32, ty: u16, room: u16) -> Verdict
+// Refusals 13 to 16, each by a pass of its own, which finds the row.
+fn checked_verdict(types: &[u8], rows: &[u8], value: &[u8], number: u32, ty: u16, room: u16) -> Verdict
     requires { ⌜ (length (now types) ≤ 9216) × (length (now rows) ≤ 16384) × (8 ≤ length (now value)) × (length (now value) ≤ 2048) ⌝ }
     ensures { λ v. ⌜ v ≡ rowsVerdict (now (types .entry)) (now (rows .entry)) (now (value .entry)) number ty room ⌝ }
 {
@@ -120,6 +123,35 @@ fn rows_verdict(types: &[u8], rows: &[u8], value: &[u8], number: u32, ty: u16, r
         return Verdict::Refused(Refusal::ReplyRoom);
     }
     Verdict::Accepted
+}
+
+// Refusals 14 to 16 of rows that are seen to be good: kinds, the listed type, room.
+fn good_verdict(rows: &[u8], value: &[u8], number: u32, ty: u16, room: u16) -> Verdict
+    requires { ⌜ (length (now rows) ≤ 16384) × (8 ≤ length (now value)) × (length (now value) ≤ 2048) ⌝ }
+    ensures { λ v. ⌜ v ≡ goodVerdict (now (rows .entry)) (now (value .entry)) number ty room ⌝ }
+{
+    let unfit = first_unfit(value);
+    if let Found::At(i) = unfit {
+        return Verdict::Refused(Refusal::ReplyKind(i));
+    }
+    if layout::u16_at(value, TYPE_AT) != ty {
+        return Verdict::Refused(Refusal::ReplyTyping(0));
+    }
+    if (room as usize) < super::rows_after(rows, value, number) {
+        return Verdict::Refused(Refusal::ReplyRoom);
+    }
+    Verdict::Accepted
+}
+
+// Refusals 13 to 16. Rows that are seen to be good at once need no passes for their shape and typing.
+fn rows_verdict(types: &[u8], rows: &[u8], value: &[u8], number: u32, ty: u16, room: u16) -> Verdict
+    requires { ⌜ (length (now types) ≤ 9216) × (length (now rows) ≤ 16384) × (8 ≤ length (now value)) × (length (now value) ≤ 2048) ⌝ }
+    ensures { λ v. ⌜ v ≡ rowsVerdict (now (types .entry)) (now (rows .entry)) (now (value .entry)) number ty room ⌝ }
+{
+    if quick::few_good(types, value) {
+        return good_verdict(rows, value, number, ty, room);
+    }
+    checked_verdict(types, rows, value, number, ty, room)
 }
 
 // The verdict on a reply to a sound record: nothing is written.

@@ -3,7 +3,7 @@ use Prim.Native.Nat.{ℕ, _+_, _*_, _-_, _/_, _≤_, _<_}
 use mathlib.Core.Path.{_≡_, refl, ap, sym, _∙_}
 use mathlib.Core.Bool.{Bool, true, false, false≢true}
 use mathlib.Core.List.{List, [], _∷_, map}
-use mathlib.Core.Option.{Option}
+use mathlib.Core.Option.{Option, none}
 use native.Mathlib.Omega.{arith}
 use native.Mathlib.Nat.{mul-sub}
 use borrow.Author.Tests.{leb-true, eq-eqb, ne-eqb, lt-ltb, le-ltb}
@@ -25,7 +25,7 @@ use Rattle.layout.proofs.Laws.{read-front, term-row, term-rows-at}
 use Rattle.layout.proofs.Tables.{reads-cut, type-table-cut, row-table-cut}
 use Rattle.terms.specs.Tables.{Closed}
 use Rattle.terms.proofs.Scan.{bytes-closed}
-use Rattle.sound.specs.Ready.{Ready, entryTable, restSound}
+use Rattle.sound.specs.Ready.{Ready, entryTable, othersSound, restSound}
 use Rattle.sound.proofs.Laws.{fails, passes}
 
 -- where the parts of a record begin, and how much of each is in use
@@ -193,6 +193,16 @@ module _ (m : Limits) (b : List ℕ) (z : Sizes m b) where
   unfolding termSound stateOf
   term-told t p n o e pe f g = ap nothing (g ∙ rw (types-table t e, rows-table p n pe f) refl)
 
+  -- rows that are good, cut from the record
+  pub good-told : (t p n v : ℕ) → t ≡ typeCount b → p ≡ rowsAt (board m) → n ≡ rowCount b → v ≡ headNo 3 b
+      → shape v (length (take (20 + 36 * t - 20) (drop 20 b)) / 36) (rowTable (take (p + 8 * n - p) (drop p b))) ≡ Whole
+      → firstBad (formOf (typeTable (take (20 + 36 * t - 20) (drop 20 b)))) empty (treeOf (termRows (take (p + 8 * n - p) (drop p b)))) ≡ none
+      → (shapeSound (board m) b ≡ true) × (termSound (board m) b ≡ true)
+  unfolding isWhole nothing
+  good-told t p n v e pe f g w o =
+      let c : length (take (20 + 36 * t - 20) (drop 20 b)) / 36 ≡ t = omega (arith, types-length t e) in
+      (sym (shape-told p n t v Whole pe f e g (sym (rw c at w))), sym (term-told t p n none e pe f (sym o)))
+
   pub calls-are : stateOf (board m) b .calls ≡ map entryOf (entriesIn (board m) b)
   unfolding stateOf
   calls-are = refl
@@ -244,28 +254,32 @@ module _ (m : Limits) (b : List ℕ) where
       no-types e = passes _ _ h ∙ passes _ _ s ∙ fails _ _ e
 
       module _ (t : typesSound b ≡ true) where
-        pub no-shape : shapeSound (board m) b ≡ false → sound (board m) b ≡ false
-        unfolding sound
-        no-shape e = passes _ _ h ∙ passes _ _ s ∙ passes _ _ t ∙ fails _ _ e
+        pub the-rest : sound (board m) b ≡ restSound (board m) b
+        unfolding sound restSound othersSound
+        the-rest = passes _ _ h ∙ passes _ _ s ∙ passes _ _ t
 
-        pub the-rest : shapeSound (board m) b ≡ true → sound (board m) b ≡ restSound (board m) b
-        unfolding sound restSound
-        the-rest e = passes _ _ h ∙ passes _ _ s ∙ passes _ _ t ∙ passes _ _ e
-
-  pub no-term : termSound (board m) b ≡ false → restSound (board m) b ≡ false
+  pub no-shape : shapeSound (board m) b ≡ false → restSound (board m) b ≡ false
   unfolding restSound
-  no-term e = fails _ _ e
+  no-shape e = fails _ _ e
 
-  module _ (t : termSound (board m) b ≡ true) where
-    pub no-calls : callsSound (board m) b ≡ false → restSound (board m) b ≡ false
+  module _ (s : shapeSound (board m) b ≡ true) where
+    pub no-term : termSound (board m) b ≡ false → restSound (board m) b ≡ false
     unfolding restSound
-    no-calls e = passes _ _ t ∙ fails _ _ e
+    no-term e = passes _ _ s ∙ fails _ _ e
 
-    module _ (k : callsSound (board m) b ≡ true) where
-      pub no-futures : futuresSound (board m) b ≡ false → restSound (board m) b ≡ false
-      unfolding restSound
-      no-futures e = passes _ _ t ∙ passes _ _ k ∙ fails _ _ e
+    pub the-others : termSound (board m) b ≡ true → restSound (board m) b ≡ othersSound (board m) b
+    unfolding restSound
+    the-others e = passes _ _ s ∙ passes _ _ e
 
-      pub only-program : futuresSound (board m) b ≡ true → restSound (board m) b ≡ programSound (board m) b
-      unfolding restSound
-      only-program e = passes _ _ t ∙ passes _ _ k ∙ passes _ _ e
+  pub no-calls : callsSound (board m) b ≡ false → othersSound (board m) b ≡ false
+  unfolding othersSound
+  no-calls e = fails _ _ e
+
+  module _ (k : callsSound (board m) b ≡ true) where
+    pub no-futures : futuresSound (board m) b ≡ false → othersSound (board m) b ≡ false
+    unfolding othersSound
+    no-futures e = passes _ _ k ∙ fails _ _ e
+
+    pub only-program : futuresSound (board m) b ≡ true → othersSound (board m) b ≡ programSound (board m) b
+    unfolding othersSound
+    only-program e = passes _ _ k ∙ passes _ _ e

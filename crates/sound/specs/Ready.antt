@@ -6,7 +6,7 @@ use mathlib.Core.List.{List}
 use lib.Dec.{eqb, leb}
 use lib.ListN.{length}
 use Rattle.meaning.specs.Bytes.{Limits as Board, _∧ᵇ_, within, recordBytes, reads, entryRow}
-use Rattle.meaning.specs.Records.{headNo, typeCount, rowCount, openCount, nextNumber, headSound, termSound, callsSound, futuresSound, programSound}
+use Rattle.meaning.specs.Records.{headNo, typeCount, rowCount, openCount, nextNumber, headSound, shapeSound, termSound, callsSound, futuresSound, programSound}
 use Rattle.layout.specs.declared.Limits.{Limits}
 use Rattle.layout.specs.Rows.{board}
 
@@ -34,6 +34,9 @@ countsFit m b =
     ∧ᵇ within 1 (suc (m .lastNumber)) (nextNumber b)
     ∧ᵇ eqb (headNo 10 b) 0
 
--- sound behind the shape's test
+-- sound behind the tests of the rows, and behind that of the types
+unfoldable pub othersSound : Board → List ℕ → Bool
+othersSound m b = callsSound m b ∧ᵇ futuresSound m b ∧ᵇ programSound m b
+
 unfoldable pub restSound : Board → List ℕ → Bool
-restSound m b = termSound m b ∧ᵇ callsSound m b ∧ᵇ futuresSound m b ∧ᵇ programSound m b
+restSound m b = shapeSound m b ∧ᵇ termSound m b ∧ᵇ othersSound m b

@@ -25,7 +25,7 @@ use Rattle.meaning.specs.declared.Verdict.the-variants.{Accepted, Refused}
 use Rattle.meaning.proofs.Trees.Tests.{left, right, within-if}
 use Rattle.layout.specs.Rows.{typeTable, rowTable, termRows}
 use Rattle.layout.proofs.Tables.{type-table-cut, row-table-cut}
-use Rattle.tca.specs.Loads.{marked, countsOk}
+use Rattle.tca.specs.Loads.{marked, countsOk, futureVerdict, rowsVerdict}
 
 -- The header's tests ---------------------------------------------------------------------------------------------
 
@@ -104,34 +104,45 @@ module _ (s : List ℕ) (n : ℕ) (p : n ≡ fileTypeCount s) (q : length s ≡ 
     unfolding programVerdict refuse
     bad-type-row i e = rw (← (e ∙ types-told))
 
-    module _ (a : none ≡ badType v (typeTable (typesPart s n))) where
-      types-good : badType (fileEdition s) (fileTypes s) ≡ none
-      types-good = sym (a ∙ types-told)
+    -- behind the types' test
+    pub rows-told : none ≡ badType v (typeTable (typesPart s n)) → rowsVerdict v n (typesPart s n) (rowsPart s n) ≡ programVerdict s
+    unfolding programVerdict rowsVerdict refuse fileTree
+    rows-told a =
+        let good : badType (fileEdition s) (fileTypes s) ≡ none = sym (a ∙ types-told) in
+        rw (good, types-are, rows-are, p, o)
 
-      shape-is : shape v n (rowTable (rowsPart s n)) ≡ shape (fileEdition s) (fileTypeCount s) (fileRows s)
-      shape-is = ap (shape v n) rows-are ∙ ap (λ (c : ℕ). shape v c (fileRows s)) p ∙ ap (λ (x : ℕ). shape x (fileTypeCount s) (fileRows s)) o
+-- The rows, test by test
+module _ (v n : ℕ) (types rows : List ℕ) where
+  pub bad-row : (f : Fault) (i : ℕ) → Bad f i ≡ shape v n (rowTable rows) → Refused (Row f i) ≡ rowsVerdict v n types rows
+  unfolding rowsVerdict refuseShape
+  bad-row f i e = rw (← e)
 
-      pub bad-row : (f : Fault) (i : ℕ) → Bad f i ≡ shape v n (rowTable (rowsPart s n)) → Refused (Row f i) ≡ programVerdict s
-      unfolding programVerdict refuse refuseShape
-      bad-row f i e = rw (types-good, ← (e ∙ shape-is))
+  module _ (b : Whole ≡ shape v n (rowTable rows)) where
+    pub future-row : (i : ℕ) → some i ≡ firstNot noFuture (rowTable rows) → Refused (Future i) ≡ rowsVerdict v n types rows
+    unfolding rowsVerdict refuse refuseShape
+    future-row i e = rw (← b, ← e)
 
-      module _ (b : Whole ≡ shape v n (rowTable (rowsPart s n))) where
-        pub future-row : (i : ℕ) → some i ≡ firstNot noFuture (rowTable (rowsPart s n)) → Refused (Future i) ≡ programVerdict s
-        unfolding programVerdict refuse refuseShape
-        future-row i e = rw (types-good, ← (b ∙ shape-is), ← (e ∙ ap (firstNot noFuture) rows-are))
+    -- where no row fails typing
+    pub futures-left : none ≡ firstBad (formOf (typeTable types)) empty (treeOf (termRows rows)) → futureVerdict rows ≡ rowsVerdict v n types rows
+    unfolding rowsVerdict futureVerdict refuse refuseShape
+    futures-left e = rw (← b, ← e)
 
-        module _ (c : none ≡ firstNot noFuture (rowTable (rowsPart s n))) where
-          judged-is : firstBad (formOf (typeTable (typesPart s n))) empty (treeOf (termRows (rowsPart s n))) ≡ firstBad (formOf (fileTypes s)) empty (fileTree s)
-          unfolding fileTree
-          judged-is = rw (types-are, rows-are)
+    module _ (c : none ≡ firstNot noFuture (rowTable rows)) where
+      pub ill-typed-row : (i : ℕ) → some i ≡ firstBad (formOf (typeTable types)) empty (treeOf (termRows rows)) → Refused (Typing i) ≡ rowsVerdict v n types rows
+      unfolding rowsVerdict refuse refuseShape
+      ill-typed-row i e = rw (← b, ← c, ← e)
 
-          pub ill-typed-row : (i : ℕ) → some i ≡ firstBad (formOf (typeTable (typesPart s n))) empty (treeOf (termRows (rowsPart s n))) → Refused (Typing i) ≡ programVerdict s
-          unfolding programVerdict refuse refuseShape
-          ill-typed-row i e = rw (types-good, ← (b ∙ shape-is), ← (c ∙ ap (firstNot noFuture) rows-are), ← (e ∙ judged-is))
+      pub all-good : none ≡ firstBad (formOf (typeTable types)) empty (treeOf (termRows rows)) → Accepted ≡ rowsVerdict v n types rows
+      unfolding rowsVerdict refuse refuseShape
+      all-good e = rw (← b, ← c, ← e)
 
-          pub all-good : none ≡ firstBad (formOf (typeTable (typesPart s n))) empty (treeOf (termRows (rowsPart s n))) → Accepted ≡ programVerdict s
-          unfolding programVerdict refuse refuseShape
-          all-good e = rw (types-good, ← (b ∙ shape-is), ← (c ∙ ap (firstNot noFuture) rows-are), ← (e ∙ judged-is))
+pub future-told : (rows : List ℕ) (i : ℕ) → some i ≡ firstNot noFuture (rowTable rows) → Refused (Future i) ≡ futureVerdict rows
+unfolding futureVerdict refuse
+future-told rows i e = rw (← e)
+
+pub none-held : (rows : List ℕ) → none ≡ firstNot noFuture (rowTable rows) → Accepted ≡ futureVerdict rows
+unfolding futureVerdict refuse
+none-held rows e = rw (← e)
 
 -- The first that fails a test ------------------------------------------------------------------------------------
 

@@ -18,7 +18,7 @@ ghost use Rattle.layout.specs.Rows.{found, board, rowTable};
 ghost use Rattle.meaning.specs.Bytes.{arm};
 ghost use Rattle.meaning.specs.Records.{firstNot};
 ghost use Rattle.meaning.specs.Entries.{fileEdition, fileTypeCount, fileRowCount, noFuture, programVerdict, loadVerdict, LoadSays};
-ghost use Rattle.tca.specs.Loads.{Tells};
+ghost use Rattle.tca.specs.Loads.{Tells, futureVerdict, rowsVerdict};
 
 // The edition of the file format that is read.
 const VERSION: u16 = 1;
@@ -62,18 +62,23 @@ fn first_future(rows: &[u8]) -> Found
     Found::Nothing
 }
 
-// Refusals 6 to 9 of a file of an edition that has the length its counts need, with `count` types.
-fn program_verdict(file: &[u8], edition: u16, count: u16) -> meaning::Verdict
-    requires { ⌜ (length (now file) ≡ 10 + 36 * fileTypeCount (now file) + 8 * fileRowCount (now file)) × (count ≡ fileTypeCount (now file)) × (edition ≡ fileEdition (now file)) × (count ≤ 256) × (fileRowCount (now file) ≤ 2048) ⌝ }
-    ensures { λ v. ⌜ v ≡ programVerdict (now (file .entry)) ⌝ }
+// Refusal 8 alone.
+fn future_verdict(rows: &[u8]) -> meaning::Verdict
+    requires { ⌜ length (now rows) ≤ 32768 ⌝ }
+    ensures { λ v. ⌜ v ≡ futureVerdict (now (rows .entry)) ⌝ }
 {
-    let at = layout::FILE_HEAD + layout::TYPE_ROW * count as usize;
-    let types = &file[layout::FILE_HEAD..at];
-    let rows = &file[at..];
-    let bad = types::bad_type(types, edition);
-    if let Found::At(i) = bad {
-        return meaning::Verdict::Refused(Refusal::TypeRow(i));
+    let future = first_future(rows);
+    match future {
+        Found::At(i) => meaning::Verdict::Refused(Refusal::Future(i)),
+        Found::Nothing => meaning::Verdict::Accepted,
     }
+}
+
+// Refusals 7 to 9, each by a pass of its own, which finds the row.
+fn rows_verdict(types: &[u8], rows: &[u8], edition: u16, count: u16) -> meaning::Verdict
+    requires { ⌜ length (now rows) ≤ 16384 ⌝ }
+    ensures { λ v. ⌜ v ≡ rowsVerdict edition count (now (types .entry)) (now (rows .entry)) ⌝ }
+{
     let form = terms::check_shape(rows, count, edition);
     if let Shape::Bad(f, i) = form {
         return meaning::Verdict::Refused(Refusal::Row(f, i));
@@ -87,6 +92,25 @@ fn program_verdict(file: &[u8], edition: u16, count: u16) -> meaning::Verdict
         return meaning::Verdict::Refused(Refusal::Typing(i));
     }
     meaning::Verdict::Accepted
+}
+
+// Refusals 6 to 9 of a file of an edition that has the length its counts need, with `count` types. Rows that are seen to be good at once need no
+// other pass than the one for futures.
+fn program_verdict(file: &[u8], edition: u16, count: u16) -> meaning::Verdict
+    requires { ⌜ (length (now file) ≡ 10 + 36 * fileTypeCount (now file) + 8 * fileRowCount (now file)) × (count ≡ fileTypeCount (now file)) × (edition ≡ fileEdition (now file)) × (count ≤ 256) × (fileRowCount (now file) ≤ 2048) ⌝ }
+    ensures { λ v. ⌜ v ≡ programVerdict (now (file .entry)) ⌝ }
+{
+    let at = layout::FILE_HEAD + layout::TYPE_ROW * count as usize;
+    let types = &file[layout::FILE_HEAD..at];
+    let rows = &file[at..];
+    let bad = types::bad_type(types, edition);
+    if let Found::At(i) = bad {
+        return meaning::Verdict::Refused(Refusal::TypeRow(i));
+    }
+    if quick::all_good(types, rows, edition) {
+        return future_verdict(rows);
+    }
+    rows_verdict(types, rows, edition, count)
 }
 
 // The verdict alone: nothing is written.

@@ -1,8 +1,7 @@
--- `sound::is_sound` meets its contract: test by test. Assumes nothing.
+-- Test by test. Assumes nothing.
 use mathlib.Core.Path.{sym, _∙_}
 use borrow.Author.Tests.{not-true, not-false}
-use Rattle.meaning.specs.Records.{nothing}
-use Rattle.sound.proofs.Parts.{long-enough, no-head, no-space, no-types, no-shape, the-rest}
+use Rattle.sound.proofs.Parts.{long-enough, no-head, no-space, no-types, the-rest, the-others}
 use Rattle.sound.proofs.is_sound.Statement.{statement}
 use Rattle.sound.proofs.is_sound.Tie as tie
 
@@ -11,22 +10,95 @@ is-sound-spec =
     tie.close
     (tie.spec
     -- head-sound-requires
-    (λ c κs. long-enough (c .before .args .m) (c .before .args .kept .now) (c .before .pre .1))
+    (λ c κs.
+      let args = c .before .args in
+      let pre = c .before .pre in
+      long-enough (args .m) (args .kept .now) (pre .1))
     -- returns
-    (λ c. sym (no-head (c .before .before .before .args .m) (c .before .before .before .args .kept .now) (sym (c .before .head-sound .ensures) ∙ not-true _ (c .if1 .taken))))
+    (λ c.
+      let args = c .before .before .before .args in
+      let head-sound = c .before .head-sound in
+      let if1 = c .if1 in
+      sym (no-head (args .m) (args .kept .now) (sym (head-sound .ensures) ∙ not-true _ (if1 .taken))))
     -- space-sound-requires
-    (λ c κs. record { room = c .before .before .before .pre .0; long = c .before .before .before .pre .1; head = (sym (c .before .head-sound .ensures) ∙ not-false _ (c .if1 .left)) })
+    (λ c κs.
+      let args = c .before .before .before .args in
+      let pre = c .before .before .before .pre in
+      let head-sound = c .before .head-sound in
+      let if1 = c .if1 in
+      record { room = pre .0; long = pre .1; head = (sym (head-sound .ensures) ∙ not-false _ (if1 .left)) })
     -- returns-2
-    (λ c. sym (no-space (c .before .before .before .before .before .args .m) (c .before .before .before .before .before .args .kept .now) (sym (c .before .before .before .head-sound .ensures) ∙ not-false _ (c .before .before .if1 .left)) (sym (c .before .space-sound .ensures) ∙ not-true _ (c .if2 .taken))))
+    (λ c.
+      let args = c .before .before .before .before .before .args in
+      let pre = c .before .before .before .before .before .pre in
+      let head-sound = c .before .before .before .head-sound in
+      let if1 = c .before .before .if1 in
+      let space-sound = c .before .space-sound in
+      let if2 = c .if2 in
+      sym (no-space (args .m) (args .kept .now) (sym (head-sound .ensures) ∙ not-false _ (if1 .left)) (sym (space-sound .ensures) ∙ not-true _ (if2 .taken))))
     -- types-sound-requires
-    (λ c κs. record { room = c .before .before .before .before .before .pre .0; long = c .before .before .before .before .before .pre .1; head = (sym (c .before .before .before .head-sound .ensures) ∙ not-false _ (c .before .before .if1 .left)) })
+    (λ c κs.
+      let args = c .before .before .before .before .before .args in
+      let pre = c .before .before .before .before .before .pre in
+      let head-sound = c .before .before .before .head-sound in
+      let if1 = c .before .before .if1 in
+      record { room = pre .0; long = pre .1; head = (sym (head-sound .ensures) ∙ not-false _ (if1 .left)) })
     -- returns-3
-    (λ c. sym (no-types (c .before .before .before .before .before .before .before .args .m) (c .before .before .before .before .before .before .before .args .kept .now) (sym (c .before .before .before .before .before .head-sound .ensures) ∙ not-false _ (c .before .before .before .before .if1 .left)) (sym (c .before .before .before .space-sound .ensures) ∙ not-false _ (c .before .before .if2 .left)) (sym (c .before .types-sound .ensures) ∙ not-true _ (c .if3 .taken))))
-    -- shape-sound-requires
-    (λ c κs. record { room = c .before .before .before .before .before .before .before .pre .0; long = c .before .before .before .before .before .before .before .pre .1; head = (sym (c .before .before .before .before .before .head-sound .ensures) ∙ not-false _ (c .before .before .before .before .if1 .left)) })
+    (λ c.
+      let args = c .before .before .before .before .before .before .before .args in
+      let pre = c .before .before .before .before .before .before .before .pre in
+      let head-sound = c .before .before .before .before .before .head-sound in
+      let if1 = c .before .before .before .before .if1 in
+      let space-sound = c .before .before .before .space-sound in
+      let if2 = c .before .before .if2 in
+      let types-sound = c .before .types-sound in
+      let if3 = c .if3 in
+      sym (no-types (args .m) (args .kept .now) (sym (head-sound .ensures) ∙ not-false _ (if1 .left)) (sym (space-sound .ensures) ∙ not-false _ (if2 .left)) (sym (types-sound .ensures) ∙ not-true _ (if3 .taken))))
+    -- quick-sound-requires
+    (λ c κs.
+      let args = c .before .before .before .before .before .before .before .args in
+      let pre = c .before .before .before .before .before .before .before .pre in
+      let head-sound = c .before .before .before .before .before .head-sound in
+      let if1 = c .before .before .before .before .if1 in
+      record { room = pre .0; long = pre .1; head = (sym (head-sound .ensures) ∙ not-false _ (if1 .left)) })
+    -- others-sound-requires
+    (λ c κs.
+      let args = c .before .before .before .before .before .before .before .before .before .args in
+      let pre = c .before .before .before .before .before .before .before .before .before .pre in
+      let head-sound = c .before .before .before .before .before .before .before .head-sound in
+      let if1 = c .before .before .before .before .before .before .if1 in
+      record { room = pre .0; long = pre .1; head = (sym (head-sound .ensures) ∙ not-false _ (if1 .left)) })
     -- returns-4
-    (λ c. sym (no-shape (c .before .before .before .before .before .before .before .before .before .args .m) (c .before .before .before .before .before .before .before .before .before .args .kept .now) (sym (c .before .before .before .before .before .before .before .head-sound .ensures) ∙ not-false _ (c .before .before .before .before .before .before .if1 .left)) (sym (c .before .before .before .before .before .space-sound .ensures) ∙ not-false _ (c .before .before .before .before .if2 .left)) (sym (c .before .before .before .types-sound .ensures) ∙ not-false _ (c .before .before .if3 .left)) (sym (c .before .shape-sound .ensures) ∙ not-true _ (c .if4 .taken))))
+    (λ c.
+      let args = c .before .before .before .before .before .before .before .before .before .before .args in
+      let pre = c .before .before .before .before .before .before .before .before .before .before .pre in
+      let head-sound = c .before .before .before .before .before .before .before .before .head-sound in
+      let if1 = c .before .before .before .before .before .before .before .if1 in
+      let space-sound = c .before .before .before .before .before .before .space-sound in
+      let if2 = c .before .before .before .before .before .if2 in
+      let types-sound = c .before .before .before .before .types-sound in
+      let if3 = c .before .before .before .if3 in
+      let quick-sound = c .before .before .quick-sound in
+      let if4 = c .before .if4 in
+      let others-sound = c .others-sound in
+      let good = quick-sound .ensures (if4 .taken) in
+      others-sound .ensures ∙ sym (the-rest (args .m) (args .kept .now) (sym (head-sound .ensures) ∙ not-false _ (if1 .left)) (sym (space-sound .ensures) ∙ not-false _ (if2 .left)) (sym (types-sound .ensures) ∙ not-false _ (if3 .left)) ∙ the-others (args .m) (args .kept .now) (good .0) (good .1)))
     -- rest-sound-requires
-    (λ c κs. (record { room = c .before .before .before .before .before .before .before .before .before .pre .0; long = c .before .before .before .before .before .before .before .before .before .pre .1; head = (sym (c .before .before .before .before .before .before .before .head-sound .ensures) ∙ not-false _ (c .before .before .before .before .before .before .if1 .left)) }, (sym (c .before .shape-sound .ensures) ∙ not-false _ (c .if4 .left))))
+    (λ c κs.
+      let args = c .before .before .before .before .before .before .before .before .before .args in
+      let pre = c .before .before .before .before .before .before .before .before .before .pre in
+      let head-sound = c .before .before .before .before .before .before .before .head-sound in
+      let if1 = c .before .before .before .before .before .before .if1 in
+      record { room = pre .0; long = pre .1; head = (sym (head-sound .ensures) ∙ not-false _ (if1 .left)) })
     -- returns-5
-    (λ c. c .rest-sound .ensures ∙ sym (the-rest (c .before .before .before .before .before .before .before .before .before .before .args .m) (c .before .before .before .before .before .before .before .before .before .before .args .kept .now) (sym (c .before .before .before .before .before .before .before .before .head-sound .ensures) ∙ not-false _ (c .before .before .before .before .before .before .before .if1 .left)) (sym (c .before .before .before .before .before .before .space-sound .ensures) ∙ not-false _ (c .before .before .before .before .before .if2 .left)) (sym (c .before .before .before .before .types-sound .ensures) ∙ not-false _ (c .before .before .before .if3 .left)) (sym (c .before .before .shape-sound .ensures) ∙ not-false _ (c .before .if4 .left)))))
+    (λ c.
+      let args = c .before .before .before .before .before .before .before .before .before .before .args in
+      let pre = c .before .before .before .before .before .before .before .before .before .before .pre in
+      let head-sound = c .before .before .before .before .before .before .before .before .head-sound in
+      let if1 = c .before .before .before .before .before .before .before .if1 in
+      let space-sound = c .before .before .before .before .before .before .space-sound in
+      let if2 = c .before .before .before .before .before .if2 in
+      let types-sound = c .before .before .before .before .types-sound in
+      let if3 = c .before .before .before .if3 in
+      let rest-sound = c .rest-sound in
+      rest-sound .ensures ∙ sym (the-rest (args .m) (args .kept .now) (sym (head-sound .ensures) ∙ not-false _ (if1 .left)) (sym (space-sound .ensures) ∙ not-false _ (if2 .left)) (sym (types-sound .ensures) ∙ not-false _ (if3 .left)))))
