@@ -197,20 +197,11 @@ fn number<N: std::str::FromStr>(word: &str) -> Result<N, String> {
 mod tests {
     use super::*;
 
-    /// Document 01 gives this file byte by byte.
+    /// The bench runner's own input is document 01's first file.
     #[test]
     fn the_first_case_is_document_01s_file() {
         let text = include_str!("../bench-runner.txt");
-        let mut file = vec![0x54, 0x43, 0x41, 0x01, 0x00, 0x00, 0x02, 0x00, 0x04, 0x00];
-        file.push(0x01);
-        file.extend([0; 35]);
-        file.push(0x03);
-        file.extend([0; 35]);
-        file.extend([0x0A, 0x00, 0x00, 0x00, 0x00, 0x00, 0x00, 0x00]);
-        file.extend([0x03, 0x00, 0x01, 0x00, 0x00, 0x00, 0x00, 0x00]);
-        file.extend([0x01, 0x00, 0x00, 0x00, 0x07, 0x00, 0x00, 0x00]);
-        file.extend([0x01, 0x00, 0x00, 0x00, 0x08, 0x00, 0x00, 0x00]);
-        assert_eq!(cases_of(text).unwrap()[0].file, file);
+        assert_eq!(cases_of(text).unwrap()[0].file, include_bytes!("../../crates/bench/stdin"));
     }
 
     #[test]
