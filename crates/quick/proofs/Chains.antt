@@ -10,7 +10,7 @@ use lib.ListN.{length, getD, drop, set, length-set, length-drop, drop-of-length-
 use lib.Seq.{drop-cons, drop-drop, drop-set-lt, getD-drop, getD-set-same, getD-set-other}
 use Rattle.meaning.specs.Types.{Param, names, types, find}
 use Rattle.rules.proofs.ByPart.{parts-front}
-use Rattle.quick.specs.Names.{packed, nameIn, typeIn, linkIn, paramIn, inScope, ahead, Chained}
+use Rattle.quick.specs.Names.{packed, nameIn, typeIn, linkIn, paramIn, inScope, ahead, NamesChained}
 
 -- A stored entry in front --------------------------------------------------------------------------------------------
 
@@ -93,7 +93,7 @@ scope-more es j h = rw (drop-cons es j 0 h)
 
 -- Names come and go --------------------------------------------------------------------------------------------------
 
-module _ (es hs : List ℕ) (b : ℕ) (c : Chained es hs b) where
+module _ (es hs : List ℕ) (b : ℕ) (c : NamesChained es hs b) where
   -- the first entry of a chain
   pub head-own : (h : ℕ) → h < 256 → getD hs h 0 < length es → nameIn (getD es (getD hs h 0) 0) % 256 ≡ h
   head-own h g q =
@@ -125,7 +125,7 @@ module _ (es hs : List ℕ) (b : ℕ) (c : Chained es hs b) where
     abbrev outer : List ℕ
     outer = set hs (nameIn (getD es b 0) % 256) (linkIn (getD es b 0))
 
-    pub unbound : Chained es outer (suc b)
+    pub unbound : NamesChained es outer (suc b)
     unbound =
         record {
           low = h;
@@ -168,7 +168,7 @@ module _ (es hs : List ℕ) (b : ℕ) (c : Chained es hs b) where
     unfolding inScope paramIn
     scope-bound = rw (front, name-packed x t link hx ht link-few, type-packed x t link hx ht link-few)
 
-    pub bound : Chained more inner j
+    pub bound : NamesChained more inner j
     bound =
         record {
           low = omega (arith, c .low, length-set es j (packed x t link));
@@ -184,6 +184,7 @@ module _ (es hs : List ℕ) (b : ℕ) (c : Chained es hs b) where
               | yes q ↦ rw (q, getD-set-same hs (x % 256) j 0 (omega (arith, c .chains)), front, here (x % 256) (packed x t link) (drop b es) (ap (λ (n : ℕ). n % 256) (name-packed x t link hx ht link-few))) (omega arith)
               | no q ↦ rw (getD-set-other hs (x % 256) k j 0 q, front, there k (packed x t link) (drop b es) (λ z. q (sym z ∙ ap (λ (n : ℕ). n % 256) (name-packed x t link hx ht link-few)))) (omega (arith, c .heads k g))
             ]
+
         next : (k : ℕ) → j ≤ k → k < length more → linkIn (getD more k 0) ≡ suc k + ahead (nameIn (getD more k 0) % 256) (drop (suc k) more)
         next k g q =
             elim (ℕ-discrete k j) [

@@ -15,11 +15,12 @@ use Rattle.meaning.proofs.Trees.Tests.{numbers-same}
 use Rattle.meaning.proofs.Trees.Parse.{grove-more}
 use Rattle.terms.proofs.Scan.{grove-size, grove-none}
 use Rattle.layout.specs.Rows.{termRows}
-use Rattle.rules.specs.Forms.{says, forms, partTypes, isFunction, three, FixedKind}
+use Rattle.rules.specs.Forms.{says, forms, partTypes, isFunction, three}
 use Rattle.typing.specs.Scope.{judged}
 use Rattle.typing.proofs.ByRow.{tys-more, binds-let}
 use Rattle.typing.proofs.Judging.{judged-any, judged-apply, judged-tuple, judged-fix}
 use Rattle.quick.specs.Dues.{Due, wanted, ends, begins, Comes}
+use Rattle.quick.proofs.ByKind.{fixed-kind}
 use Rattle.quick.proofs.Seeing.{no-names, names-in-front, drop-all, size-here, node-good, judged-few}
 
 grove-one : (l : List Row) (i : ℕ) → grove l i 1 ≡ more (treeAt l i) end
@@ -28,12 +29,6 @@ grove-one l i = grove-more l i 0
 
 grove-two : (l : List Row) (i : ℕ) → grove l i 2 ≡ more (treeAt l i) (more (treeAt l (i + size (treeAt l i))) end)
 grove-two l i = grove-more l i 1 ∙ ap (λ (f : Forest 1). more (treeAt l i) f) (grove-one l (i + size (treeAt l i)))
-
-native-fixed : FixedKind 6
-native-fixed = record { no-variable = λ z. omega arith; no-apply = λ z. omega arith; no-fix = λ z. omega arith; no-tuple = λ z. omega arith }
-
-let-fixed : FixedKind 19
-let-fixed = record { no-variable = λ z. omega arith; no-apply = λ z. omega arith; no-fix = λ z. omega arith; no-tuple = λ z. omega arith }
 
 let-rule : (F : ℕ → Form) (w a ty : ℕ) → ruleOk F empty (bind w) ty (a ▹ ty ▹ ⟨⟩) ≡ true
 unfolding ruleOk
@@ -85,9 +80,9 @@ module _ (s b : List ℕ) (i n ty w : ℕ) (h : i < length b / 8) where
   native-seen e a m ds ps q r c =
       let t = treeAt l (i + 1) in
       let stated : list (tys (grove l (i + 1) 1)) ≡ a ∷ [] = ap (λ (f : Forest 1). list (tys f)) (grove-one l (i + 1)) ∙ rw (c .0) in
-      let good = judged-few s b i 6 n ty w h e (find ps) a native-fixed r stated in
+      let good = judged-few s b i 6 n ty w h e (find ps) a (fixed-kind 6 refl) r stated in
       let below : firstBads F (find ps) (scope F lambda ty (tys (grove l (i + 1) 1))) (grove l (i + 1) 1) ≡ none =
-        ap (λ (f : Forest 1). firstBads F (find ps) (λ (_ : ℕ). params (F ty)) f) (grove-one l (i + 1)) ∙ rw (names-in-front (params (F ty)) ps, c .1) in
+      ap (λ (f : Forest 1). firstBads F (find ps) (λ (_ : ℕ). params (F ty)) f) (grove-one l (i + 1)) ∙ rw (names-in-front (params (F ty)) ps, c .1) in
       let z : i + 1 + size t ≡ i + size (treeAt l i) = omega (arith, size-here s b i 6 n ty w h e, grove-size l (i + 1) 0, grove-none l (i + 1 + size t)) in
       (refl, node-good s b i 6 n ty w h e (find ps) good below, subst (Comes F l ds ps) z (rw (drop-all (params (F ty)) ps m q) at (c .2)))
 
@@ -101,10 +96,10 @@ module _ (s b : List ℕ) (i n ty w : ℕ) (h : i < length b / 8) where
       let u = treeAt l j in
       let bound = binds-let F b i 19 n ty w h e refl in
       let stated : list (tys (grove l (i + 1) 2)) ≡ a ∷ ty ∷ [] = ap (λ (f : Forest 2). list (tys f)) (grove-two l (i + 1)) ∙ rw (c .0, c .2 .0) in
-      let good = judged-few s b i 19 n ty w h e (find ps) a let-fixed (let-rule F w a ty) stated in
+      let good = judged-few s b i 19 n ty w h e (find ps) a (fixed-kind 19 refl) (let-rule F w a ty) stated in
       let c2 = rw bound at (c .2) in
       let below : firstBads F (find ps) (scope F (bind w) ty (tys (grove l (i + 1) 2))) (grove l (i + 1) 2) ≡ none =
-        ap (λ (f : Forest 2). firstBads F (find ps) (scope F (bind w) ty (tys f)) f) (grove-two l (i + 1))
-        ∙ rw (no-names (find ps), c .1, names-in-front (record { name = w; type = tyOf t } ∷ []) ps, c2 .1) in
+      ap (λ (f : Forest 2). firstBads F (find ps) (scope F (bind w) ty (tys f)) f) (grove-two l (i + 1))
+      ∙ rw (no-names (find ps), c .1, names-in-front (record { name = w; type = tyOf t } ∷ []) ps, c2 .1) in
       let z : j + size u ≡ i + size (treeAt l i) = omega (arith, size-here s b i 19 n ty w h e, grove-size l (i + 1) 1, grove-size l j 0, grove-none l (j + size u)) in
       (refl, node-good s b i 19 n ty w h e (find ps) good below, subst (Comes F l ds ps) z (c2 .2))

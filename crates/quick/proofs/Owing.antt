@@ -7,8 +7,6 @@ use borrow.Author.Tests.{lt-ltb, le-ltb}
 use lib.ListN.{length, getD, drop, set}
 use lib.Seq.{drop-cons}
 use Rattle.quick.specs.Dues.{Due, wanted, ends, begins, due, dues}
-use Rattle.meaning.specs.Typing.{list}
-use Rattle.rules.specs.Forms.{three}
 use Rattle.quick.proofs.Chains.{stored-front}
 
 pub due-wanted : (e : ℕ) → e < 65536 → due e ≡ wanted e
@@ -39,27 +37,6 @@ dues-front l s h = let e : suc s ≡ s + 1 = omega arith in rw (← e, drop-cons
 pub wants-more : (ts : List ℕ) (rest now after : List Due) (k m t : ℕ) → after ≡ wanted t ∷ now → t ≡ getD ts k 0 → suc k ≡ m → m ≤ length ts
     → now ≡ map wanted (drop m ts) ++ rest → after ≡ map wanted (drop k ts) ++ rest
 wants-more ts rest now after k m t p q z h r = p ∙ rw (q, r, ← z, drop-cons ts k 0 (omega arith))
-
--- the first c of three
-module _ (c a t : ℕ) (rest after : List Due) where
-  abbrev Few : Type 0
-  Few = after ≡ map wanted (list (three c a t t)) ++ rest
-
-  pub few-none : c ≡ 0 → after ≡ rest → Few
-  unfolding list three
-  few-none e p = rw e p
-
-  pub few-one : c ≡ 1 → after ≡ wanted a ∷ rest → Few
-  unfolding list three
-  few-one e p = rw e p
-
-  pub few-two : c ≡ 2 → (two : List Due) → two ≡ wanted t ∷ rest → after ≡ wanted a ∷ two → Few
-  unfolding list three
-  few-two e two q p = rw e (p ∙ rw q)
-
-  pub few-three : c ≡ 3 → (two one : List Due) → two ≡ wanted t ∷ rest → one ≡ wanted t ∷ two → after ≡ wanted a ∷ one → Few
-  unfolding list three
-  few-three e two one q r p = rw e (p ∙ rw (r, q))
 
 -- the number in front, by what it says
 module _ (after rest : List Due) (e n : ℕ) (p : after ≡ due e ∷ rest) where

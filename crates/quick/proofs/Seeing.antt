@@ -1,11 +1,12 @@
 -- A row whose rule is kept, over children that are still to come: what is due before it follows from what is due behind it. Assumes nothing.
 use Prim.Native.Nat.{ℕ, zero, suc, _+_, _*_, _/_, _<_}
 use mathlib.Core.Path.{_≡_, refl, ap, sym, _∙_, subst, fun-ext}
-use mathlib.Core.Bool.{true}
+use mathlib.Core.Bool.{true, false}
 use mathlib.Core.List.{List, [], _∷_, _++_, map}
 use mathlib.Core.Option.{none}
 use native.Mathlib.Omega.{arith}
 use native.Mathlib.Decide.{ℕ-discrete}
+use lib.Dec.{eqb}
 use borrow.Author.Tests.{eq-eqb, ne-eqb}
 use lib.ListN.{length, drop}
 use Rattle.meaning.specs.Bytes.{read, termRow}
@@ -71,8 +72,7 @@ module _ (F : ℕ → Form) (l : List Row) where
   kids-come (suc n) (t ∷ ws) ds ps i e c =
       let j = i + size (treeAt l i) in
       let k = kids-come n ws ds ps j (omega arith) (c .2) in
-      let z : i + sizes (grove l i (suc n)) ≡ j + sizes (grove l j n) = omega (arith, grove-size l i n) in
-      (
+      let z : i + sizes (grove l i (suc n)) ≡ j + sizes (grove l j n) = omega (arith, grove-size l i n) in (
         ap list (tys-more l i n) ∙ rw (c .0, k .0),
         ap (firstBads F (find ps) (λ (_ : ℕ). [])) (grove-more l i n) ∙ rw (no-names (find ps), c .1, k .1),
         subst (Comes F l ds ps) (sym z) (k .2),
@@ -119,13 +119,13 @@ module _ (s b : List ℕ) (i k n ty w : ℕ) (h : i < length b / 8) (e : k ∷ n
   node-good Γ j q = ap (firstBad F Γ) tree ∙ rw (sym (judged-in s b i k n ty w h e Γ) ∙ j, q)
 
   -- a row that binds nothing, over children of the types ws
-  pub plain-seen : (ws : List ℕ) (ds : List Due) (ps : List Param) → (k ≡ 6 → ⊥) → (k ≡ 19 → ⊥) → length ws ≡ arity (headFrom k n w)
+  pub plain-seen : (ws : List ℕ) (ds : List Due) (ps : List Param) → eqb k 6 ≡ false → eqb k 19 ≡ false → length ws ≡ arity (headFrom k n w)
       → (list (tys kidsOf) ≡ ws → judged F (find ps) (treeAt l i) ≡ true) → Comes F l (map wanted ws ++ ds) ps (i + 1) → Comes F l (wanted (tyOf (treeAt l i)) ∷ ds) ps i
   unfolding Comes
   plain-seen ws ds ps x y z j c =
       let g = kids-come F l (arity (headFrom k n w)) ws ds ps (i + 1) z c in
       let m : i + 1 + sizes kidsOf ≡ i + size (treeAt l i) = omega (arith, size-here) in
-      let no-scope : scope F (headFrom k n w) ty (tys kidsOf) ≡ (λ (_ : ℕ). []) = fun-ext λ q. scope-none F (headFrom k n w) ty (tys kidsOf) q (code-at 6 k n w (omega arith) (omega arith) ∙ ne-eqb k 6 x) (code-at 19 k n w (omega arith) (omega arith) ∙ ne-eqb k 19 y) in
+      let no-scope : scope F (headFrom k n w) ty (tys kidsOf) ≡ (λ (_ : ℕ). []) = fun-ext λ q. scope-none F (headFrom k n w) ty (tys kidsOf) q (code-at 6 k n w (omega arith) (omega arith) ∙ x) (code-at 19 k n w (omega arith) (omega arith) ∙ y) in
       (refl, node-good (find ps) (j (g .0)) (rw no-scope (g .1)), subst (Comes F l ds ps) m (g .2))
 
   -- what the rules ask, of children of known types ---------------------------------------------------------------

@@ -34,7 +34,7 @@ ahead h [] = 0
 ahead h (e ∷ es) = cond (eqb (nameIn e % 256) h) 0 (suc (ahead h es))
 
 -- each chain begins at its first entry from b on, and goes on from each of its entries to the next
-pub record Chained (es hs : List ℕ) (b : ℕ) : Type 0 where
+pub record NamesChained (es hs : List ℕ) (b : ℕ) : Type 0 where
   pub low : b ≤ length es
   pub few : length es ≤ 65535
   pub chains : length hs ≡ 256

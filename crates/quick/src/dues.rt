@@ -4,8 +4,7 @@ ghost use mathlib.Core.Path.{_≡_};
 ghost use mathlib.Core.List.{_∷_, _++_, map};
 ghost use Prim.Native.Nat.{_+_, _≤_, _<_};
 ghost use lib.ListN.{length};
-ghost use Rattle.meaning.specs.Typing.{list};
-ghost use Rattle.rules.specs.Forms.{says, partTypes, three};
+ghost use Rattle.rules.specs.Forms.{says, partTypes};
 ghost use Rattle.quick.specs.Dues.{wanted, ends, begins, due, dues};
 
 // The numbers from which on one means the end of a scope, and the beginning of one.
@@ -59,23 +58,4 @@ pub fn want_parts(types: &[u8], t: u16, stack: &mut [u32], s: usize) -> usize
         j = want(stack, j, forms::type_of(types, t, k));
     }
     j
-}
-
-// The first c of three trees, of types a, t and t.
-pub fn want_few(stack: &mut [u32], s: usize, a: u16, t: u16, c: usize) -> usize
-    requires { ⌜ (c ≤ 3) × (3 ≤ s) × (s ≤ length (now stack)) ⌝ }
-    ensures { λ r. ⌜ (r + c ≡ s) × (length (now (stack .exit)) ≡ length (now (stack .entry))) × (dues (now (stack .exit)) r ≡ map wanted (list (three c a t t)) ++ dues (now (stack .entry)) s) ⌝ }
-{
-    if c == 0 {
-        return s;
-    }
-    if c == 1 {
-        return want(stack, s, a);
-    }
-    let q = want(stack, s, t);
-    if c == 2 {
-        return want(stack, q, a);
-    }
-    let m = want(stack, q, t);
-    want(stack, m, a)
 }

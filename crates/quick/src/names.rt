@@ -7,7 +7,7 @@ ghost use lib.ListN.{length};
 ghost use Rattle.meaning.specs.Types.{find, parts};
 ghost use Rattle.meaning.specs.Typing.{given};
 ghost use Rattle.rules.specs.Forms.{says};
-ghost use Rattle.quick.specs.Names.{packed, nameIn, typeIn, linkIn, inScope, Chained};
+ghost use Rattle.quick.specs.Names.{packed, nameIn, typeIn, linkIn, inScope, NamesChained};
 
 // An entry: the name, its type, and the entry that is next in its chain.
 fn entry(name: u16, ty: u16, link: u16) -> u64
@@ -36,8 +36,8 @@ fn link_in(e: u64) -> u16
 
 // One name more, of type t; entry b was the innermost.
 pub fn bind(bound: &mut [u64], heads: &mut [u16], b: usize, x: u16, t: u16) -> usize
-    requires { ⌜ Chained (now bound) (now heads) b × (0 < b) ⌝ }
-    ensures { λ r. ⌜ (r + 1 ≡ b) × (length (now (bound .exit)) ≡ length (now (bound .entry))) × Chained (now (bound .exit)) (now (heads .exit)) r × (inScope (now (bound .exit)) r ≡ record { name = x; type = t } ∷ inScope (now (bound .entry)) b) ⌝ }
+    requires { ⌜ NamesChained (now bound) (now heads) b × (0 < b) ⌝ }
+    ensures { λ r. ⌜ (r + 1 ≡ b) × (length (now (bound .exit)) ≡ length (now (bound .entry))) × NamesChained (now (bound .exit)) (now (heads .exit)) r × (inScope (now (bound .exit)) r ≡ record { name = x; type = t } ∷ inScope (now (bound .entry)) b) ⌝ }
 {
     let h = (x % 256) as usize;
     let j = b - 1;
@@ -48,8 +48,8 @@ pub fn bind(bound: &mut [u64], heads: &mut [u16], b: usize, x: u16, t: u16) -> u
 
 // The n innermost names fall out of scope.
 pub fn unbind(bound: &[u64], heads: &mut [u16], b: usize, n: usize) -> usize
-    requires { ⌜ Chained (now bound) (now heads) b × (b + n ≤ length (now bound)) ⌝ }
-    ensures { λ r. ⌜ (r ≡ b + n) × Chained (now (bound .entry)) (now (heads .exit)) r ⌝ }
+    requires { ⌜ NamesChained (now bound) (now heads) b × (b + n ≤ length (now bound)) ⌝ }
+    ensures { λ r. ⌜ (r ≡ b + n) × NamesChained (now (bound .entry)) (now (heads .exit)) r ⌝ }
 {
     let end = b + n;
     let mut j = b;
@@ -63,22 +63,28 @@ pub fn unbind(bound: &[u64], heads: &mut [u16], b: usize, n: usize) -> usize
 
 // The names of the parts of type t, the first one innermost.
 pub fn bind_parts(types: &[u8], t: u16, bound: &mut [u64], heads: &mut [u16], b: usize) -> usize
-    requires { ⌜ Chained (now bound) (now heads) b × (8 ≤ b) ⌝ }
-    ensures { λ r. ⌜ (r + length (parts (says (now (types .entry)) t)) ≡ b) × (length (now (bound .exit)) ≡ length (now (bound .entry))) × Chained (now (bound .exit)) (now (heads .exit)) r × (inScope (now (bound .exit)) r ≡ parts (says (now (types .entry)) t) ++ inScope (now (bound .entry)) b) ⌝ }
+    requires { ⌜ NamesChained (now bound) (now heads) b × (8 ≤ b) ⌝ }
+    ensures { λ r. ⌜ (r + length (parts (says (now (types .entry)) t)) ≡ b) × (length (now (bound .exit)) ≡ length (now (bound .entry))) × NamesChained (now (bound .exit)) (now (heads .exit)) r × (inScope (now (bound .exit)) r ≡ parts (says (now (types .entry)) t) ++ inScope (now (bound .entry)) b) ⌝ }
 {
     let mut j = b;
     let mut k = forms::parts_of(types, t);
     while 0 < k {
         k -= 1;
-        j = bind(bound, heads, j, forms::name_of(types, t, k), forms::type_of(types, t, k));
+        j = bind(
+            bound,
+            heads,
+            j,
+            forms::name_of(types, t, k),
+            forms::type_of(types, t, k),
+        );
     }
     j
 }
 
 // Whether the name x has type t.
 pub fn means(bound: &[u64], heads: &[u16], x: u32, t: u16) -> bool
-    requires { ⌜ ((b : ℕ) × Chained (now bound) (now heads) b) ⌝ }
-    ensures { λ r. ⌜ ((b : ℕ) → Chained (now (bound .entry)) (now (heads .entry)) b → r ≡ given (find (inScope (now (bound .entry)) b) x) t) ⌝ }
+    requires { ⌜ ((b : ℕ) × NamesChained (now bound) (now heads) b) ⌝ }
+    ensures { λ r. ⌜ ((b : ℕ) → NamesChained (now (bound .entry)) (now (heads .entry)) b → r ≡ given (find (inScope (now (bound .entry)) b) x) t) ⌝ }
 {
     let all = bound.len();
     let mut j = layout::wide(heads[(x % 256) as usize]);

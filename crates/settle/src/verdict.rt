@@ -103,7 +103,14 @@ fn first_wrong(types: &[u8], rows: &[u8], ty: u16) -> Found
 }
 
 // Refusals 13 to 16, each by a pass of its own, which finds the row.
-fn checked_verdict(types: &[u8], rows: &[u8], value: &[u8], number: u32, ty: u16, room: u16) -> Verdict
+fn checked_verdict(
+    types: &[u8],
+    rows: &[u8],
+    value: &[u8],
+    number: u32,
+    ty: u16,
+    room: u16,
+) -> Verdict
     requires { ⌜ (length (now types) ≤ 9216) × (length (now rows) ≤ 16384) × (8 ≤ length (now value)) × (length (now value) ≤ 2048) ⌝ }
     ensures { λ v. ⌜ v ≡ rowsVerdict (now (types .entry)) (now (rows .entry)) (now (value .entry)) number ty room ⌝ }
 {
@@ -148,7 +155,8 @@ fn rows_verdict(types: &[u8], rows: &[u8], value: &[u8], number: u32, ty: u16, r
     requires { ⌜ (length (now types) ≤ 9216) × (length (now rows) ≤ 16384) × (8 ≤ length (now value)) × (length (now value) ≤ 2048) ⌝ }
     ensures { λ v. ⌜ v ≡ rowsVerdict (now (types .entry)) (now (rows .entry)) (now (value .entry)) number ty room ⌝ }
 {
-    if quick::few_good(types, value) {
+    let seen = quick::few_good(types, value);
+    if seen.good {
         return good_verdict(rows, value, number, ty, room);
     }
     checked_verdict(types, rows, value, number, ty, room)

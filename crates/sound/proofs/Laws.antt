@@ -6,7 +6,7 @@ use mathlib.Core.List.{List, [], _∷_, _++_}
 use mathlib.Core.Option.{Option, none, some}
 use native.Mathlib.Omega.{arith}
 use native.Mathlib.Numerals.{add-one}
-use borrow.Author.Tests.{eq-eqb, ne-eqb}
+use borrow.Author.Tests.{eqb-false, not-true, eq-eqb, ne-eqb}
 use lib.Dec.{eqb}
 use lib.ListN.{length, getD, take, drop, drop-of-length-le}
 use lib.Seq.{drop-cons, take-suc, take-all}
@@ -14,6 +14,8 @@ use Rattle.meaning.specs.Bytes.{_∧ᵇ_, zeros}
 use Rattle.meaning.specs.Terms.{kindNo, typeNo, wordNo}
 use Rattle.meaning.specs.Typing.{given}
 use Rattle.meaning.specs.Records.{Entry, nothing, firstNot, listed, futureListed}
+use Rattle.meaning.specs.Entries.{noFuture}
+use Rattle.meaning.proofs.Trees.Tests.{left, right}
 
 -- Tests joined ---------------------------------------------------------------------------------------------------
 
@@ -62,6 +64,15 @@ module _ (calls : List Entry) (r : List ℕ) where
   pub a-future : kindNo r ≡ 9 → futureListed calls r ≡ given (listed calls (wordNo r)) (typeNo r)
   unfolding futureListed
   a-future n = rw (eq-eqb _ _ n)
+
+-- where there is no future, none is to be listed
+pub none-to-list : (calls : List Entry) (rows : List (List ℕ)) → nothing (firstNot noFuture rows) ≡ true → nothing (firstNot (futureListed calls) rows) ≡ true
+unfolding noFuture
+none-to-list calls [] e = every-end (futureListed calls) [] 0 (omega arith)
+none-to-list calls (r ∷ rows) e =
+    let both = sym (every-more noFuture r rows) ∙ e in
+    let other = other-kind calls r (eqb-false _ _ (not-true _ (left _ _ both))) in
+    every-more (futureListed calls) r rows ∙ passes _ _ other ∙ none-to-list calls rows (right _ _ both)
 
 -- A sum of bytes -------------------------------------------------------------------------------------------------
 

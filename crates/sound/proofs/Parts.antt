@@ -15,6 +15,7 @@ use Rattle.meaning.specs.Types.{Form, formOf, ground, badType, empty}
 use Rattle.meaning.specs.Terms.{tyOf, treeOf, trees, top, rowOf, typeNo, shape}
 use Rattle.meaning.specs.Typing.{firstBad}
 use Rattle.meaning.specs.Records.{Entry, headNo, typeCount, rowCount, openCount, nextNumber, programType, typesIn, entriesIn, rowsIn, entryOf, stateOf, firstNot, nothing, isWhole, headSound, unused, spaceSound, typesSound, shapeSound, termSound, rises, entrySound, callsSound, futureListed, futuresSound, programSound, sound}
+use Rattle.meaning.specs.Entries.{noFuture}
 use Rattle.meaning.specs.declared.Shape.{Shape}
 use Rattle.meaning.specs.declared.Shape.the-variants.{Whole, Bad}
 use Rattle.meaning.proofs.Trees.Tests.{left, right, within-if}
@@ -26,7 +27,7 @@ use Rattle.layout.proofs.Tables.{reads-cut, type-table-cut, row-table-cut}
 use Rattle.terms.specs.Tables.{Closed}
 use Rattle.terms.proofs.Scan.{bytes-closed}
 use Rattle.sound.specs.Ready.{Ready, entryTable, othersSound, restSound}
-use Rattle.sound.proofs.Laws.{fails, passes}
+use Rattle.sound.proofs.Laws.{fails, passes, none-to-list}
 
 -- where the parts of a record begin, and how much of each is in use
 pub record Sizes (m : Limits) (b : List ℕ) : Type 0 where
@@ -224,6 +225,10 @@ module _ (m : Limits) (b : List ℕ) (z : Sizes m b) where
       → a ≡ nothing (firstNot (futureListed es) (rowTable (take (p + 8 * n - p) (drop p b)))) → a ≡ futuresSound (board m) b
   unfolding futuresSound
   futures-told p n es a pe e f h = h ∙ rw (rows-table p n pe e, f) refl
+
+  pub none-seen : (p n : ℕ) → p ≡ rowsAt (board m) → n ≡ rowCount b → firstNot noFuture (rowTable (take (p + 8 * n - p) (drop p b))) ≡ none → futuresSound (board m) b ≡ true
+  unfolding nothing
+  none-seen p n pe e h = sym (futures-told p n (stateOf (board m) b .calls) true pe e refl (sym (none-to-list (stateOf (board m) b .calls) (rowTable (take (p + 8 * n - p) (drop p b))) (ap nothing h))))
 
   pub program-told : (p t q : ℕ) → p ≡ rowsAt (board m) → t ≡ number 2 (drop (p + 2) b) → q ≡ programType b → eqb t q ≡ programSound (board m) b
   unfolding programSound stateOf rowsIn

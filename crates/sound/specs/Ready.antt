@@ -1,7 +1,7 @@
 -- What is known of a record once its header has passed, and a table of list entries. Assumes nothing.
 use Prim.Native.Nat.{ℕ, suc, _≤_, _/_}
 use mathlib.Core.Path.{_≡_}
-use mathlib.Core.Bool.{Bool, true}
+use mathlib.Core.Bool.{Bool, true, false}
 use mathlib.Core.List.{List}
 use lib.Dec.{eqb, leb}
 use lib.ListN.{length}
@@ -9,6 +9,7 @@ use Rattle.meaning.specs.Bytes.{Limits as Board, _∧ᵇ_, within, recordBytes,
 use Rattle.meaning.specs.Records.{headNo, typeCount, rowCount, openCount, nextNumber, headSound, shapeSound, termSound, callsSound, futuresSound, programSound}
 use Rattle.layout.specs.declared.Limits.{Limits}
 use Rattle.layout.specs.Rows.{board}
+use Rattle.quick.specs.declared.Seen.{Seen}
 
 -- a board that the arrays of the tests have room for
 pub record Roomy (m : Limits) : Type 0 where
@@ -20,6 +21,12 @@ pub record Ready (m : Limits) (kept : List ℕ) : Type 0 where
   pub room : Roomy m
   pub long : length kept ≡ recordBytes (board m)
   pub head : headSound (board m) kept ≡ true
+
+-- what a quick check tells of the rows of a record: where they are good, their shape and typing, and that no future is to be listed where none was seen
+pub record ShowsRows (m : Board) (b : List ℕ) (r : Seen) : Type 0 where
+  pub shape : r .good ≡ true → shapeSound m b ≡ true
+  pub term : r .good ≡ true → termSound m b ≡ true
+  pub futures : r .good ≡ true → r .future ≡ false → futuresSound m b ≡ true
 
 -- the table that lent bytes are: 8 bytes an entry
 abbrev pub entryTable : List ℕ → List (List ℕ)

@@ -5,11 +5,12 @@ use layout::Row;
 use meaning::Shape;
 use open::Listed;
 use open::OpenList;
+use quick::Seen;
 
 pub mod head;
 
 ghost use mathlib.Core.Path.{_≡_};
-ghost use mathlib.Core.Bool.{true};
+ghost use mathlib.Core.Bool.{true, false};
 ghost use Prim.Native.Nat.{_≤_};
 ghost use lib.ListN.{length};
 ghost use Rattle.meaning.specs.Bytes.{zeros, recordBytes};
@@ -18,7 +19,7 @@ ghost use Rattle.meaning.specs.Typing.{given};
 ghost use Rattle.meaning.specs.Records.{nothing, firstNot, listed, futureListed, entrySound, stateOf, spaceSound, typesSound, shapeSound, termSound, callsSound, futuresSound, programSound, sound};
 ghost use Rattle.layout.specs.Rows.{board, typeTable, rowTable};
 ghost use Rattle.open.specs.Open.{Lists, opened};
-ghost use Rattle.sound.specs.Ready.{Roomy, Ready, entryTable, othersSound, restSound};
+ghost use Rattle.sound.specs.Ready.{Roomy, Ready, ShowsRows, entryTable, othersSound, restSound};
 
 // Each byte is zero: their sum is, so that the loop has no other end.
 fn all_zero(bytes: &[u8]) -> bool
@@ -153,10 +154,10 @@ fn term_sound(kept: &[u8], m: Limits) -> bool
     }
 }
 
-// The rows are seen at once to pass both.
-fn quick_sound(kept: &[u8], m: Limits) -> bool
+// What is seen of the rows at once.
+fn quick_sound(kept: &[u8], m: Limits) -> Seen
     requires { ⌜ Ready m (now kept) ⌝ }
-    ensures { λ b. ⌜ (b ≡ true → (shapeSound (board m) (now (kept .entry)) ≡ true) × (termSound (board m) (now (kept .entry)) ≡ true)) ⌝ }
+    ensures { λ r. ⌜ ShowsRows (board m) (now (kept .entry)) r ⌝ }
 {
     let types_end = layout::RECORD_HEAD + layout::TYPE_ROW * head::type_count(kept) as usize;
     let at = layout::rows_at(m);
@@ -197,11 +198,14 @@ fn calls_sound(kept: &[u8], m: Limits) -> bool
     )
 }
 
-// "each future in the term is listed with its type"
-fn futures_sound(kept: &[u8], m: Limits) -> bool
-    requires { ⌜ Ready m (now kept) ⌝ }
+// "each future in the term is listed with its type", where there may be one
+fn futures_sound(kept: &[u8], m: Limits, future: bool) -> bool
+    requires { ⌜ Ready m (now kept) × (future ≡ false → futuresSound (board m) (now kept) ≡ true) ⌝ }
     ensures { λ b. ⌜ b ≡ futuresSound (board m) (now (kept .entry)) ⌝ }
 {
+    if !future {
+        return true;
+    }
     let list = open_list(kept, m);
     let at = layout::rows_at(m);
     let end = at + layout::TERM_ROW * head::row_count(kept) as usize;
@@ -217,15 +221,15 @@ fn program_sound(kept: &[u8], m: Limits) -> bool
     layout::u16_at(kept, at + 2) == head::program_type(kept)
 }
 
-// The tests behind those of the rows: the open list, the futures, the program's type.
-fn others_sound(kept: &[u8], m: Limits) -> bool
-    requires { ⌜ Ready m (now kept) ⌝ }
+// The tests behind those of the rows: the open list, the futures, where there may be one, the program's type.
+fn others_sound(kept: &[u8], m: Limits, future: bool) -> bool
+    requires { ⌜ Ready m (now kept) × (future ≡ false → futuresSound (board m) (now kept) ≡ true) ⌝ }
     ensures { λ b. ⌜ b ≡ othersSound (board m) (now (kept .entry)) ⌝ }
 {
     if !calls_sound(kept, m) {
         return false;
     }
-    if !futures_sound(kept, m) {
+    if !futures_sound(kept, m, future) {
         return false;
     }
     program_sound(kept, m)
@@ -242,7 +246,7 @@ fn rest_sound(kept: &[u8], m: Limits) -> bool
     if !term_sound(kept, m) {
         return false;
     }
-    others_sound(kept, m)
+    others_sound(kept, m, true)
 }
 
 // A record of the right length is sound. Rows that are seen to be good at once need no passes of their own.
@@ -259,8 +263,9 @@ pub fn is_sound(kept: &[u8], m: Limits) -> bool
     if !types_sound(kept, m) {
         return false;
     }
-    if quick_sound(kept, m) {
-        return others_sound(kept, m);
+    let seen = quick_sound(kept, m);
+    if seen.good {
+        return others_sound(kept, m, seen.future);
     }
     rest_sound(kept, m)
 }

@@ -107,8 +107,12 @@ fn program_verdict(file: &[u8], edition: u16, count: u16) -> meaning::Verdict
     if let Found::At(i) = bad {
         return meaning::Verdict::Refused(Refusal::TypeRow(i));
     }
-    if quick::all_good(types, rows, edition) {
-        return future_verdict(rows);
+    let seen = quick::all_good(types, rows, edition);
+    if seen.good {
+        if seen.future {
+            return future_verdict(rows);
+        }
+        return meaning::Verdict::Accepted;
     }
     rows_verdict(types, rows, edition, count)
 }

@@ -12,11 +12,8 @@ few-good-spec =
     (λ c. search needs)
     (λ c. search needs)
     (λ c. search needs)
-    -- seen-requires
+    -- walk-requires
     (λ c κs.
-      let pre = c .before .before .before .before .before .pre in
-      (omega arith, omega arith, unnamed 256 (omega arith), pre .0, pre .1))
-    -- returns
-    (λ c.
-      let seen = c .before .before .before .seen in
-      seen .ensures))
+    let pre = c .before .before .before .before .before .pre in
+    (omega arith, unnamed 256 (omega arith), pre .0, pre .1))
+    (λ c. search needs))

@@ -67,7 +67,9 @@ is-sound-spec =
       let pre = c .before .before .before .before .before .before .before .before .before .pre in
       let head-sound = c .before .before .before .before .before .before .before .head-sound in
       let if1 = c .before .before .before .before .before .before .if1 in
-      record { room = pre .0; long = pre .1; head = (sym (head-sound .ensures) ∙ not-false _ (if1 .left)) })
+      let quick-sound = c .before .quick-sound in
+      let if4 = c .if4 in
+      (record { room = pre .0; long = pre .1; head = (sym (head-sound .ensures) ∙ not-false _ (if1 .left)) }, quick-sound .ensures .futures (if4 .taken)))
     -- returns-4
     (λ c.
       let args = c .before .before .before .before .before .before .before .before .before .before .args in
@@ -81,8 +83,7 @@ is-sound-spec =
       let quick-sound = c .before .before .quick-sound in
       let if4 = c .before .if4 in
       let others-sound = c .others-sound in
-      let good = quick-sound .ensures (if4 .taken) in
-      others-sound .ensures ∙ sym (the-rest (args .m) (args .kept .now) (sym (head-sound .ensures) ∙ not-false _ (if1 .left)) (sym (space-sound .ensures) ∙ not-false _ (if2 .left)) (sym (types-sound .ensures) ∙ not-false _ (if3 .left)) ∙ the-others (args .m) (args .kept .now) (good .0) (good .1)))
+      others-sound .ensures ∙ sym (the-rest (args .m) (args .kept .now) (sym (head-sound .ensures) ∙ not-false _ (if1 .left)) (sym (space-sound .ensures) ∙ not-false _ (if2 .left)) (sym (types-sound .ensures) ∙ not-false _ (if3 .left)) ∙ the-others (args .m) (args .kept .now) (quick-sound .ensures .shape (if4 .taken)) (quick-sound .ensures .term (if4 .taken))))
     -- rest-sound-requires
     (λ c κs.
       let args = c .before .before .before .before .before .before .before .before .before .args in

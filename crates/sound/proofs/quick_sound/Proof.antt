@@ -1,6 +1,10 @@
 -- The types and rows cut are the record's. Assumes nothing.
+use mathlib.Core.Path.{_≡_}
+use mathlib.Core.Bool.{true}
+use Rattle.meaning.specs.Records.{shapeSound, termSound}
+use Rattle.layout.specs.Rows.{board}
 use native.Mathlib.Omega.{arith}
-use Rattle.sound.proofs.Parts.{sizes, types-length, rows-length, good-told}
+use Rattle.sound.proofs.Parts.{sizes, types-length, rows-length, good-told, none-seen}
 use borrow.Author.Needs.{needs}
 use Rattle.sound.proofs.quick_sound.Statement.{statement}
 use Rattle.sound.proofs.quick_sound.Tie as tie
@@ -78,4 +82,6 @@ quick-sound-spec =
       let edition = c .before .edition in
       let all-good = c .all-good in
       let z = sizes (args .m) (args .kept .now) pre in
-      λ y. good-told (args .m) (args .kept .now) z _ _ _ _ (type-count .ensures) (rows-at .ensures) (row-count .ensures) (edition .ensures) (all-good .ensures y .0) (all-good .ensures y .1)))
+      let seen = all-good .ensures in
+      let good : (all-good .result .good ≡ true) → (shapeSound (board (args .m)) (args .kept .now) ≡ true) × (termSound (board (args .m)) (args .kept .now) ≡ true) = λ y. good-told (args .m) (args .kept .now) z _ _ _ _ (type-count .ensures) (rows-at .ensures) (row-count .ensures) (edition .ensures) (seen .whole y) (seen .typed y) in
+      record { shape = λ y. good y .0; term = λ y. good y .1; futures = λ y f. none-seen (args .m) (args .kept .now) z _ _ (rows-at .ensures) (row-count .ensures) (seen .still y f) }))

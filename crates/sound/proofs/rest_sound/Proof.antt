@@ -1,5 +1,6 @@
 -- Test by test. Assumes nothing.
 use mathlib.Core.Path.{sym, _∙_}
+use mathlib.Core.Bool.{false≢true}
 use borrow.Author.Tests.{not-true, not-false}
 use Rattle.sound.proofs.Parts.{no-shape, no-term, the-others}
 use borrow.Author.Needs.{needs}
@@ -31,7 +32,8 @@ rest-sound-spec =
       let term-sound = c .before .term-sound in
       let if2 = c .if2 in
       sym (no-term (args .m) (args .kept .now) (sym (shape-sound .ensures) ∙ not-false _ (if1 .left)) (sym (term-sound .ensures) ∙ not-true _ (if2 .taken))))
-    (λ c κs. search needs)
+    -- others-sound-requires
+    (λ c κs. (c .before .before .before .before .before .pre, λ z. absurd (false≢true (sym z))))
     -- returns-3
     (λ c.
       let args = c .before .before .before .before .before .before .args in

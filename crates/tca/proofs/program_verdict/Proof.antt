@@ -4,7 +4,7 @@ use mathlib.Core.Path.{_≡_, sym, ap, _∙_}
 use native.Mathlib.Omega.{arith}
 use lib.ListN.{length}
 use Rattle.layout.specs.Rows.{found}
-use Rattle.tca.proofs.VerdictLaws.{typesPart, types-length, rows-length, bad-type-row, rows-told, futures-left}
+use Rattle.tca.proofs.VerdictLaws.{typesPart, types-length, rows-length, bad-type-row, rows-told, none-held, futures-left}
 use borrow.Author.Needs.{needs}
 use Rattle.tca.proofs.program_verdict.Statement.{statement}
 use Rattle.tca.proofs.program_verdict.Tie as tie
@@ -46,25 +46,37 @@ program-verdict-spec =
       (omega (arith, pre .3), omega (arith, pre .4)))
     -- future-verdict-requires
     (λ c κs.
-      let args = c .before .before .before .before .before .before .before .before .args in
-      let pre = c .before .before .before .before .before .before .before .before .pre in
+      let args = c .before .before .before .before .before .before .before .before .before .args in
+      let pre = c .before .before .before .before .before .before .before .before .before .pre in
       let t = types-length (args .file .now) (args .count) (pre .1) (pre .0) in
       let r = rows-length (args .file .now) (args .count) (pre .1) (pre .0) in
       omega (arith, pre .4))
     -- returns-2
+    (λ c.
+      let args = c .before .before .before .before .before .before .before .before .before .before .args in
+      let pre = c .before .before .before .before .before .before .before .before .before .before .pre in
+      let bad-type = c .before .before .before .before .before .before .bad-type in
+      let enum-told = c .before .before .before .before .enum-told in
+      let all-good = c .before .before .before .all-good in
+      let if1 = c .before .before .if1 in
+      let future-verdict = c .future-verdict in
+      let t = types-length (args .file .now) (args .count) (pre .1) (pre .0) in
+      let r = rows-length (args .file .now) (args .count) (pre .1) (pre .0) in
+      let c : length (typesPart (args .file .now) (args .count)) / 36 ≡ args .count = omega arith in
+      future-verdict .ensures ∙ futures-left (args .edition) (args .count) (typesPart (args .file .now) (args .count)) _ (sym (rw c at (all-good .ensures .whole (if1 .taken)))) (sym (all-good .ensures .typed (if1 .taken))) ∙ rows-told (args .file .now) (args .count) (pre .1) (pre .0) (args .edition) (pre .2) (sym (ap found (enum-told .given .1)) ∙ bad-type .ensures))
+    -- returns-3
     (λ c.
       let args = c .before .before .before .before .before .before .before .before .before .args in
       let pre = c .before .before .before .before .before .before .before .before .before .pre in
       let bad-type = c .before .before .before .before .before .bad-type in
       let enum-told = c .before .before .before .enum-told in
       let all-good = c .before .before .all-good in
+      let if2 = c .if2 in
       let if1 = c .before .if1 in
-      let future-verdict = c .future-verdict in
       let t = types-length (args .file .now) (args .count) (pre .1) (pre .0) in
       let r = rows-length (args .file .now) (args .count) (pre .1) (pre .0) in
-      let good = all-good .ensures (if1 .taken) in
       let c : length (typesPart (args .file .now) (args .count)) / 36 ≡ args .count = omega arith in
-      future-verdict .ensures ∙ futures-left (args .edition) (args .count) (typesPart (args .file .now) (args .count)) _ (sym (rw c at (good .0))) (sym (good .1)) ∙ rows-told (args .file .now) (args .count) (pre .1) (pre .0) (args .edition) (pre .2) (sym (ap found (enum-told .given .1)) ∙ bad-type .ensures))
+      none-held _ (sym (all-good .ensures .still (if1 .taken) (if2 .left))) ∙ futures-left (args .edition) (args .count) (typesPart (args .file .now) (args .count)) _ (sym (rw c at (all-good .ensures .whole (if1 .taken)))) (sym (all-good .ensures .typed (if1 .taken))) ∙ rows-told (args .file .now) (args .count) (pre .1) (pre .0) (args .edition) (pre .2) (sym (ap found (enum-told .given .1)) ∙ bad-type .ensures))
     -- rows-verdict-requires
     (λ c κs.
       let args = c .before .before .before .before .before .before .before .before .args in
@@ -72,7 +84,7 @@ program-verdict-spec =
       let t = types-length (args .file .now) (args .count) (pre .1) (pre .0) in
       let r = rows-length (args .file .now) (args .count) (pre .1) (pre .0) in
       omega (arith, pre .4))
-    -- returns-3
+    -- returns-4
     (λ c.
       let args = c .before .before .before .before .before .before .before .before .before .args in
       let pre = c .before .before .before .before .before .before .before .before .before .pre in

@@ -6,7 +6,7 @@ use Rattle.quick.proofs.dues.begin_scope.Statement.{statement}
 use Rattle.quick.proofs.dues.begin_scope.Tie as tie
 
 pub begin-scope-spec : {M : Type 1} → statement M
-begin-scope-spec = tie.close (tie.spec (λ c. search needs) (λ c. search needs) (λ c κs. search needs) (λ c. search needs) -- returns
+begin-scope-spec = tie.close (tie.spec (λ c. search needs) (λ c. search needs) (λ c κs. search needs) (λ c. search needs)  -- returns
     (λ c.
-      let push = c .before .before .push in
-      (push .ensures .0, push .ensures .1, front-begins _ _ _ _ (push .ensures .2) refl)))
+    let push = c .before .before .push in
+    (push .ensures .0, push .ensures .1, front-begins _ _ _ _ (push .ensures .2) refl)))

@@ -8,7 +8,7 @@ use Rattle.quick.proofs.dues.push.Statement.{statement}
 use Rattle.quick.proofs.dues.push.Tie as tie
 
 pub push-spec : {M : Type 1} → statement M
-push-spec = tie.close (tie.spec (λ c. search needs) (λ c. search needs) (λ c. search needs) (λ c. search needs) -- returns
+push-spec = tie.close (tie.spec (λ c. search needs) (λ c. search needs) (λ c. search needs) (λ c. search needs)  -- returns
     (λ c.
-      let j = c .args .s - 1 in
-      (omega arith, length-set (c .args .stack .now) j (c .args .e), dues-stored (c .args .stack .now) j (c .args .s) (c .args .e) (omega arith) (omega arith))))
+    let j = c .args .s - 1 in
+    (omega arith, length-set (c .args .stack .now) j (c .args .e), dues-stored (c .args .stack .now) j (c .args .s) (c .args .e) (omega arith) (omega arith))))

@@ -6,7 +6,7 @@ use Rattle.quick.proofs.dues.want.Statement.{statement}
 use Rattle.quick.proofs.dues.want.Tie as tie
 
 pub want-spec : {M : Type 1} → statement M
-want-spec = tie.close (tie.spec (λ c κs. search needs) (λ c κs. search needs) (λ c. search needs) -- returns
+want-spec = tie.close (tie.spec (λ c κs. search needs) (λ c κs. search needs) (λ c. search needs)  -- returns
     (λ c.
-      let push = c .before .before .push in
-      (push .ensures .0, push .ensures .1, front-wanted _ _ _ _ (push .ensures .2) (c .before .before .before .word-of .ensures) (omega arith))))
+    let push = c .before .before .push in
+    (push .ensures .0, push .ensures .1, front-wanted _ _ _ _ (push .ensures .2) (c .before .before .before .word-of .ensures) (omega arith))))

@@ -30,10 +30,10 @@ want-parts-spec =
     (λ c κs. search needs)
     -- loop-holds
     (λ c.
-      let args = c .before .before .before .args in
-      let n = types-length (parts (says (args .types .now) (args .t))) in
-      let m = c .parts-of .ensures in
-      (m .1, omega arith, omega arith, refl, sym (rw (drop-of-length-le (partTypes (says (args .types .now) (args .t))) {i = c .parts-of .result} (omega arith)))))
+    let args = c .before .before .before .args in
+    let n = types-length (parts (says (args .types .now) (args .t))) in
+    let m = c .parts-of .ensures in
+    (m .1, omega arith, omega arith, refl, sym (rw (drop-of-length-le (partTypes (says (args .types .now) (args .t))) {i = c .parts-of .result} (omega arith)))))
     (λ c. omega arith)
     -- type-of-requires
     (λ c κs. omega (arith, types-length (parts (says (c .before .before .before .before .before .before .args .types .now) (c .before .before .before .before .before .before .args .t)))))
@@ -42,16 +42,20 @@ want-parts-spec =
     (λ c. omega arith)
     -- loop-again
     (λ c.
-      let args = c .before .before .before .before .before .before .before .before .before .before .args in
-      let loop = c .before .before .before .before .before .before .loop in
-      let want = c .before .before .want in
-      let ts = partTypes (says (args .types .now) (args .t)) in
-      let k = loop .k - 1 in
-      (omega arith, omega arith, omega (arith, want .ensures .0), omega (arith, want .ensures .1),
-      wants-more ts _ _ _ k (loop .k) _ (want .ensures .2) (c .before .before .before .type-of .ensures) (omega arith) (loop .inv .1) (loop .inv .4)))
+    let args = c .before .before .before .before .before .before .before .before .before .before .args in
+    let loop = c .before .before .before .before .before .before .loop in
+    let want = c .before .before .want in
+    let ts = partTypes (says (args .types .now) (args .t)) in
+    let k = loop .k - 1 in (
+      omega arith,
+      omega arith,
+      omega (arith, want .ensures .0),
+      omega (arith, want .ensures .1),
+      wants-more ts _ _ _ k (loop .k) _ (want .ensures .2) (c .before .before .before .type-of .ensures) (omega arith) (loop .inv .1) (loop .inv .4),
+    ))
     (λ c. omega arith)
     -- returns
     (λ c.
-      let loop = c .before .loop in
-      let z : loop .k ≡ 0 = omega arith in
-      (omega (arith, loop .inv .2), loop .inv .3, loop .inv .4 ∙ rw z)))
+    let loop = c .before .loop in
+    let z : loop .k ≡ 0 = omega arith in
+    (omega (arith, loop .inv .2), loop .inv .3, loop .inv .4 ∙ rw z)))

@@ -27,10 +27,10 @@ bind-spec =
     (λ c. search needs)
     -- returns
     (λ c.
-      let args = c .before .before .before .before .args in
-      let pre = c .before .before .before .before .pre in
-      let es = args .bound .now in
-      let hs = args .heads .now in
-      let j = args .b - 1 in
-      let e : suc j ≡ args .b = omega arith in
-      rw (c .entry .ensures) (omega arith, length-set es j (packed (args .x) (args .t) (getD hs (args .x % 256) 0)), bound es hs (args .b) (pre .0) j (args .x) (args .t) e (omega arith) (omega arith), scope-bound es hs (args .b) (pre .0) j (args .x) (args .t) e (omega arith) (omega arith))))
+    let args = c .before .before .before .before .args in
+    let pre = c .before .before .before .before .pre in
+    let es = args .bound .now in
+    let hs = args .heads .now in
+    let j = args .b - 1 in
+    let e : suc j ≡ args .b = omega arith in
+    rw (c .entry .ensures) (omega arith, length-set es j (packed (args .x) (args .t) (getD hs (args .x % 256) 0)), bound es hs (args .b) (pre .0) j (args .x) (args .t) e (omega arith) (omega arith), scope-bound es hs (args .b) (pre .0) j (args .x) (args .t) e (omega arith) (omega arith))))

@@ -3,13 +3,13 @@ use Prim.Native.Nat.{suc, _+_, _-_, _≤_}
 use mathlib.Core.Path.{_≡_, subst}
 use native.Mathlib.Omega.{arith}
 use borrow.Author.Needs.{needs}
-use Rattle.quick.specs.Names.{Chained}
+use Rattle.quick.specs.Names.{NamesChained}
 use Rattle.quick.proofs.Chains.{unbound}
 use Rattle.quick.proofs.names.unbind.Statement.{statement}
 use Rattle.quick.proofs.names.unbind.Tie as tie
 
 abbrev Inv-loop : tie.InvT-loop
-Inv-loop bound heads₀ b n end j₀ heads j = (j ≤ b + n) × Chained bound heads j
+Inv-loop bound heads₀ b n end j₀ heads j = (j ≤ b + n) × NamesChained bound heads j
 
 abbrev μ-loop : tie.MeasureT-loop
 μ-loop bound heads₀ b n end j₀ heads j = b + n - j
@@ -33,9 +33,9 @@ unbind-spec =
     (λ c. omega arith)
     -- loop-again
     (λ c.
-      let args = c .before .before .before .before .before .before .before .args in
-      let loop = c .before .before .before .before .loop in
-      let n : suc (loop .j) ≡ loop .j + 1 = omega arith in
-      (omega arith, rw (c .name-in .ensures, c .before .link-in .ensures) (subst (Chained (args .bound .now) _) n (unbound (args .bound .now) (loop .heads) (loop .j) (loop .inv .1) (omega arith)))))
+    let args = c .before .before .before .before .before .before .before .args in
+    let loop = c .before .before .before .before .loop in
+    let n : suc (loop .j) ≡ loop .j + 1 = omega arith in
+    (omega arith, rw (c .name-in .ensures, c .before .link-in .ensures) (subst (NamesChained (args .bound .now) _) n (unbound (args .bound .now) (loop .heads) (loop .j) (loop .inv .1) (omega arith)))))
     (λ c. omega arith)
     (λ c. (omega arith, c .before .loop .inv .1)))

@@ -1,6 +1,8 @@
--- The children are due by the types that the rule asks. Assumes nothing.
-use native.Mathlib.Omega.{arith}
-use Rattle.quick.proofs.Places.{never, of-kind, leaves-branch}
+-- The truth is due, and two trees of the type of the if. Assumes nothing.
+use mathlib.Core.Path.{sym, _∙_}
+use borrow.Author.Tests.{not-false}
+use Rattle.quick.proofs.ByKind.{never}
+use Rattle.quick.proofs.Places.{leaves-branch}
 use borrow.Author.Needs.{needs}
 use Rattle.quick.proofs.rows.branch.Statement.{statement}
 use Rattle.quick.proofs.rows.branch.Tie as tie
@@ -10,24 +12,31 @@ branch-spec =
     tie.close
     (tie.spec
     (λ c κs. search needs)
-    (λ c. search needs)
     (λ c κs. search needs)
     (λ c κs. search needs)
-    (λ c κs. search needs)
-    (λ c κs. search needs)
-    (λ c. search needs)
     -- returns
-    (λ c.
-      let args = c .before .before .before .before .before .before .before .before .before .before .before .before .before .args in
-      let pre = c .before .before .before .before .before .before .before .before .before .before .before .before .before .pre in
-      let row-at = c .before .before .before .before .before .before .before .before .before .row-at in
-      let type-at = c .before .before .before .before .before .before .before .type-at in
-      let form-of = c .before .before .before .before .before .before .form-of in
-      let if1 = c .before .before .before .before .before .if1 in
-      let want-few = c .before .before .before .want-few in
-      let next = c .next in
-      let r = row-at .result in
-      λ z. leaves-branch (args .types .now) (args .rows .now) _ _ (args .p) (next .result) _ (next .ensures) (want-few .ensures .1) (pre .3) (r .n) (r .ty) (r .word) (pre .0) (of-kind _ _ (r .n) (r .ty) (r .word) _ (row-at .ensures) (pre .4)) (type-at .result) (omega (arith, form-of .ensures, if1 .taken)) (want-few .ensures .0) (want-few .ensures .2))
+    (λ c. λ z. absurd (never (c .refused .ensures) z))
+    (λ c. search needs)
     (λ c κs. search needs)
+    (λ c κs. search needs)
+    (λ c κs. search needs)
+    (λ c κs. search needs)
+    (λ c κs. search needs)
+    (λ c. search needs)
     -- returns-2
-    (λ c. λ z. absurd (never (c .refused .ensures) z)))
+    (λ c.
+    let args = c .before .before .before .before .before .before .before .before .before .before .before .before .before .before .before .before .before .before .before .args in
+    let first = c .first in
+    let row-at = c .before .before .before .before .before .before .before .before .before .before .before .before .before .before .before .row-at in
+    let pre = c .before .before .before .before .before .before .before .before .before .before .before .before .before .before .before .before .before .before .before .pre in
+    let if1 = c .before .before .before .before .before .before .before .before .before .before .before .before .before .if1 in
+    let unused = c .before .before .before .before .before .before .before .before .before .before .before .before .before .before .unused in
+    let type-at = c .before .before .before .before .before .before .before .before .before .before .before .type-at in
+    let form-of = c .before .before .before .before .before .before .before .before .before .before .form-of in
+    let if2 = c .before .before .before .before .before .before .before .before .before .if2 in
+    let want2 = c .before .before .before .want2 in
+    let want = c .before .before .before .before .before .before .before .want in
+    λ z. leaves-branch (args .types .now) (args .rows .now) _ _ (args .p) (first .result) (row-at .result .kind) (row-at .result .n) (row-at .result .ty) (row-at .result .word) (row-at .ensures) (pre .0) (sym (not-false _ (if1 .left)) ∙ unused .ensures) (type-at .result) (type-at .ensures) (sym (form-of .ensures) ∙ if2 .taken) (want2 .ensures .1 ∙ want .ensures .1) (want .result) (want2 .result) (want .ensures .0) (want2 .ensures .0) (pre .1 .within) _ (want .ensures .2) (want2 .ensures .2) (first .ensures))
+    (λ c κs. search needs)
+    -- returns-3
+    (λ c. λ z. absurd (never (c .refused2 .ensures) z)))

@@ -1,6 +1,9 @@
 -- The elements are due by the types of the parts. Assumes nothing.
+use mathlib.Core.Path.{sym, _∙_}
 use native.Mathlib.Omega.{arith}
-use Rattle.quick.proofs.Places.{never, of-kind, leaves-tuple}
+use borrow.Author.Tests.{not-false}
+use Rattle.quick.proofs.ByKind.{never}
+use Rattle.quick.proofs.Places.{leaves-tuple}
 use borrow.Author.Needs.{needs}
 use Rattle.quick.proofs.rows.tuple.Statement.{statement}
 use Rattle.quick.proofs.rows.tuple.Tie as tie
@@ -15,23 +18,28 @@ tuple-spec =
     -- returns
     (λ c. λ z. absurd (never (c .refused .ensures) z))
     (λ c κs. search needs)
-    (λ c. search needs)
     (λ c κs. search needs)
     -- returns-2
     (λ c. λ z. absurd (never (c .refused2 .ensures) z))
     (λ c κs. search needs)
+    (λ c. search needs)
+    (λ c κs. search needs)
+    -- returns-3
+    (λ c. λ z. absurd (never (c .refused3 .ensures) z))
+    (λ c κs. search needs)
     (λ c κs. search needs)
     (λ c. search needs)
-    -- returns-3
+    -- returns-4
     (λ c.
-      let args = c .before .before .before .before .before .before .before .before .before .before .before .before .before .before .args in
-      let pre = c .before .before .before .before .before .before .before .before .before .before .before .before .before .before .pre in
-      let row-at = c .before .before .before .before .before .before .before .before .before .before .row-at in
-      let form-of = c .before .before .before .before .before .before .before .before .before .form-of in
-      let parts-of = c .before .before .before .before .before .before .before .parts-of in
-      let if1 = c .before .before .before .before .before .before .before .before .if1 in
-      let if2 = c .before .before .before .before .before .if2 in
-      let want-parts = c .before .before .before .want-parts in
-      let next = c .next in
-      let r = row-at .result in
-      λ z. leaves-tuple (args .types .now) (args .rows .now) _ _ (args .p) (next .result) _ (next .ensures) (want-parts .ensures .1) (pre .3) (r .n) (r .ty) (r .word) (pre .0) (of-kind _ _ (r .n) (r .ty) (r .word) _ (row-at .ensures) (pre .4)) (omega (arith, form-of .ensures)) (omega (arith, parts-of .ensures .0)) (omega (arith, parts-of .ensures .1)) (want-parts .ensures .0) (want-parts .ensures .2)))
+    let args = c .before .before .before .before .before .before .before .before .before .before .before .before .before .before .before .before .args in
+    let next = c .next in
+    let row-at = c .before .before .before .before .before .before .before .before .before .before .before .before .row-at in
+    let pre = c .before .before .before .before .before .before .before .before .before .before .before .before .before .before .before .before .pre in
+    let if1 = c .before .before .before .before .before .before .before .before .before .before .if1 in
+    let counted = c .before .before .before .before .before .before .before .before .before .before .before .counted in
+    let form-of = c .before .before .before .before .before .before .before .before .before .form-of in
+    let if2 = c .before .before .before .before .before .before .before .before .if2 in
+    let parts-of = c .before .before .before .before .before .before .before .parts-of in
+    let if3 = c .before .before .before .before .before .if3 in
+    let want-parts = c .before .before .before .want-parts in
+    λ z. leaves-tuple (args .types .now) (args .rows .now) _ _ (args .p) (next .result) (row-at .result .kind) (row-at .result .n) (row-at .result .ty) (row-at .result .word) (row-at .ensures) (pre .0) (sym (not-false _ (if1 .left)) ∙ counted .ensures) (omega (arith, form-of .ensures, if2 .left)) (omega (arith, parts-of .ensures .0, if3 .left)) (want-parts .ensures .1) (want-parts .result) (want-parts .ensures .0) (pre .1 .within) (want-parts .ensures .2) (next .ensures)))

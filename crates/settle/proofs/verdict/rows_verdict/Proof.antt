@@ -14,5 +14,4 @@ rows-verdict-spec =
       let few-good = c .before .before .few-good in
       let if1 = c .before .if1 in
       let good-verdict = c .good-verdict in
-      let good = few-good .ensures (if1 .taken) in
-      good-verdict .ensures ∙ good-rows (args .types .now) (args .rows .now) (args .value .now) (args .number) (args .ty) (args .room) (good .0) (good .1)) (λ c κs. search needs) (λ c. search needs))
+      good-verdict .ensures ∙ good-rows (args .types .now) (args .rows .now) (args .value .now) (args .number) (args .ty) (args .room) (few-good .ensures .whole (if1 .taken)) (few-good .ensures .typed (if1 .taken))) (λ c κs. search needs) (λ c. search needs))
