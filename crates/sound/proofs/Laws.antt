@@ -1,5 +1,5 @@
--- Tests joined, tests of every element, and a sum that is zero. Assumes nothing.
-use Prim.Native.Nat.{ℕ, zero, suc, _+_, _<_, _≤_}
+-- Tests joined, tests of every element, and bytes that are all zero. Assumes nothing.
+use Prim.Native.Nat.{ℕ, zero, suc, _+_, _<_, _≤_, max}
 use mathlib.Core.Path.{_≡_, refl, ap, sym, _∙_}
 use mathlib.Core.Bool.{Bool, true, false, cond}
 use mathlib.Core.List.{List, [], _∷_, _++_}
@@ -74,7 +74,7 @@ none-to-list calls (r ∷ rows) e =
     let other = other-kind calls r (eqb-false _ _ (not-true _ (left _ _ both))) in
     every-more (futureListed calls) r rows ∙ passes _ _ other ∙ none-to-list calls rows (right _ _ both)
 
--- A sum of bytes -------------------------------------------------------------------------------------------------
+-- The greatest byte ---------------------------------------------------------------------------------------------
 
 pub total : List ℕ → ℕ
 total [] = 0
@@ -85,12 +85,21 @@ unfolding total
 total-more [] x = omega arith
 total-more (b ∷ s) x = omega (arith, total-more s x)
 
-pub sum-none : (s : List ℕ) → 0 ≡ total (take 0 s)
-unfolding total
-sum-none s = refl
+-- a number is 0 only if all bytes are, and not more than their sum: so is the greatest of them
+pub record Bounds (s : List ℕ) (m : ℕ) : Type 0 where
+  pub none-left : m ≡ 0 → total s ≡ 0
+  pub at-most : m ≤ total s
 
-pub sum-more : (s : List ℕ) (i x : ℕ) → i < length s → x ≡ total (take i s) → x + getD s i 0 ≡ total (take (i + 1) s)
-sum-more s i x h e = sym (ap total (rw add-one (take-suc s i 0 h)) ∙ total-more (take i s) (getD s i 0) ∙ ap (λ (n : ℕ). n + getD s i 0) (sym e))
+pub bounds-none : (s : List ℕ) → Bounds (take 0 s) 0
+unfolding total
+bounds-none s = record { none-left = λ e. refl; at-most = omega arith }
+
+module _ (s : List ℕ) (i m : ℕ) (h : i < length s) (e : Bounds (take i s) m) where
+  more : total (take (i + 1) s) ≡ total (take i s) + getD s i 0
+  more = ap total (rw add-one (take-suc s i 0 h)) ∙ total-more (take i s) (getD s i 0)
+
+  pub bounds-more : Bounds (take (i + 1) s) (max m (getD s i 0))
+  bounds-more = record { none-left = λ z. omega (arith, more, e .none-left (omega arith)); at-most = omega (arith, more, e .at-most) }
 
 zero-total : (s : List ℕ) → eqb (total s) 0 ≡ zeros s
 unfolding total zeros _∧ᵇ_
@@ -98,5 +107,9 @@ zero-total [] = refl
 zero-total (zero ∷ s) = let e : 0 + total s ≡ total s = omega arith in rw e (zero-total s)
 zero-total (suc b ∷ s) = ne-eqb (suc b + total s) 0 (λ e. omega arith) ∙ sym (fails (eqb (suc b) 0) (zeros s) (ne-eqb (suc b) 0 (λ e. omega arith)))
 
-pub sum-all : (s : List ℕ) (i x : ℕ) → length s ≤ i → x ≡ total (take i s) → eqb x 0 ≡ zeros s
-sum-all s i x h e = ap (λ (n : ℕ). eqb n 0) (e ∙ ap total (take-all i s h)) ∙ zero-total s
+pub bounds-all : (s : List ℕ) (i m : ℕ) → length s ≤ i → Bounds (take i s) m → eqb m 0 ≡ zeros s
+bounds-all s i m h e = go m (rw (← (take-all i s h)) e) ∙ zero-total s
+  where
+    go : (n : ℕ) → Bounds s n → eqb n 0 ≡ eqb (total s) 0
+    go zero b = rw (b .none-left refl)
+    go (suc n) b = ne-eqb (suc n) 0 (λ z. omega arith) ∙ sym (ne-eqb (total s) 0 (λ z. omega (arith, b .at-most)))

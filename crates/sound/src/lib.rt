@@ -11,7 +11,7 @@ pub mod head;
 
 ghost use mathlib.Core.Path.{_≡_};
 ghost use mathlib.Core.Bool.{true, false};
-ghost use Prim.Native.Nat.{_≤_};
+ghost use Prim.Native.Nat.{_≤_, max};
 ghost use lib.ListN.{length};
 ghost use Rattle.meaning.specs.Bytes.{zeros, recordBytes};
 ghost use Rattle.meaning.specs.Types.{formOf};
@@ -21,18 +21,27 @@ ghost use Rattle.layout.specs.Rows.{board, typeTable, rowTable};
 ghost use Rattle.open.specs.Open.{Lists, opened};
 ghost use Rattle.sound.specs.Ready.{Roomy, Ready, ShowsRows, entryTable, othersSound, restSound};
 
-// Each byte is zero: their sum is, so that the loop has no other end.
+// The greater of two bytes.
+fn greater(a: u8, b: u8) -> u8
+    ensures { λ r. ⌜ r ≡ max a b ⌝ }
+{
+    if a < b {
+        return b;
+    }
+    a
+}
+
+// Each byte is zero: the greatest is, so that the loop has no other end and takes many bytes at a time.
 fn all_zero(bytes: &[u8]) -> bool
-    requires { ⌜ length (now bytes) ≤ 65536 ⌝ }
     ensures { λ b. ⌜ b ≡ zeros (now (bytes .entry)) ⌝ }
 {
-    let mut sum: u32 = 0;
+    let mut most: u8 = 0;
     let mut i = 0;
     while i < bytes.len() {
-        sum += bytes[i] as u32;
+        most = greater(most, bytes[i]);
         i += 1;
     }
-    sum == 0
+    most == 0
 }
 
 // A future's number is open under the type that the future states.

@@ -1,18 +1,17 @@
--- `sound::all_zero` meets its contract: the sum of the bytes passed, at most 255 each. Assumes nothing.
-use Prim.Native.Nat.{_*_, _-_, _≤_}
-use mathlib.Core.Path.{_≡_}
+-- `sound::all_zero` meets its contract: the greatest of the bytes passed. Assumes nothing.
+use Prim.Native.Nat.{_-_, _≤_}
 use native.Mathlib.Omega.{arith}
 use lib.ListN.{length, take}
-use Rattle.sound.proofs.Laws.{total, sum-none, sum-more, sum-all}
+use Rattle.sound.proofs.Laws.{Bounds, bounds-none, bounds-more, bounds-all}
 use borrow.Author.Needs.{needs}
 use Rattle.sound.proofs.all_zero.Statement.{statement}
 use Rattle.sound.proofs.all_zero.Tie as tie
 
 abbrev Inv-loop : tie.InvT-loop
-Inv-loop bytes sum₀ i₀ sum i = (i ≤ length bytes) × (sum ≤ 255 * i) × (sum ≡ total (take i bytes))
+Inv-loop bytes most₀ i₀ most i = (i ≤ length bytes) × Bounds (take i bytes) most
 
 abbrev μ-loop : tie.MeasureT-loop
-μ-loop bytes sum₀ i₀ sum i = length bytes - i
+μ-loop bytes most₀ i₀ most i = length bytes - i
 
 pub all-zero-spec : {M : Type 1} → statement M
 all-zero-spec =
@@ -21,17 +20,14 @@ all-zero-spec =
     Inv-loop
     μ-loop
     -- loop-holds
-    (λ c. (omega arith, omega arith, sum-none (c .args .bytes .now)))
+    (λ c. (omega arith, bounds-none (c .before .args .bytes .now)))
     (λ c. search needs)
-    -- cast-sum
-    (λ c. omega (arith, c .shared-slice-known .given (c .before .before .loop .i)))
-    -- add-sum
-    (λ c. omega (arith, c .shared-slice-known .given (c .before .before .loop .i)))
+    (λ c. search needs)
     -- add-i
     (λ c. omega arith)
     -- loop-less
     (λ c. omega arith)
     -- loop-again
-    (λ c. (omega arith, omega (arith, c .shared-slice-known .given (c .before .before .loop .i)), sum-more (c .before .before .before .args .bytes .now) (c .before .before .loop .i) (c .before .before .loop .sum) (omega arith) (c .before .before .loop .inv .2)))
+    (λ c. (omega arith, rw (c .greater .ensures) (bounds-more (c .before .before .before .before .before .args .bytes .now) (c .before .before .before .loop .i) (c .before .before .before .loop .most) (omega arith) (c .before .before .before .loop .inv .1))))
     -- returns
-    (λ c. sum-all (c .before .before .args .bytes .now) (c .before .loop .i) (c .before .loop .sum) (omega arith) (c .before .loop .inv .2)))
+    (λ c. bounds-all (c .before .before .before .args .bytes .now) (c .before .loop .i) (c .before .loop .most) (omega arith) (c .before .loop .inv .1)))
