@@ -4,16 +4,16 @@ use mathlib.Core.Path.{_≡_, refl, ap, sym, _∙_}
 use mathlib.Core.Bool.{true, false}
 use mathlib.Core.List.{List, [], _∷_, _++_, append-assoc, append-nil}
 use native.Mathlib.Omega.{arith}
-use lib.ListN.{length, getD, take, drop, replicate, length-append, length-drop, drop-of-length-le}
-use lib.Seq.{take-all, take-at, take-take, drop-drop, drop-append-add, length-take-le}
+use lib.ListN.{length, getD, take, drop, replicate, length-append, length-drop, drop-of-length-le, take-append-drop}
+use lib.Seq.{take-all, take-at, drop-at, take-take, drop-drop, drop-append-add, length-take-le}
 use Rattle.meaning.specs.Bytes.{width, read, write, writes, termRow}
 use Rattle.meaning.proofs.Bytes.Layouts.{AllBytes, bytes-take, bytes-drop, write-read, length-writes, writes-reads}
 use Rattle.layout.specs.Rows.{rowTable}
-use Rattle.layout.proofs.Tables.{row-table-length, row-table-take, row-table-drop}
+use Rattle.layout.proofs.Tables.{row-table-length, row-table-at, row-table-take, row-table-drop}
 use Rattle.open.proofs.Lists.{drop-take}
 use Rattle.open.proofs.Stored.{writes-append}
 use Rattle.settle.specs.Settled.{isDue, settled, Stands}
-use Rattle.settle.proofs.Rows.{more-due, more-other}
+use Rattle.settle.proofs.Rows.{more-due, more-other, settled-length}
 
 -- X goes behind W
 pushed : (W X w₀ w w′ : List ℕ) (out n : ℕ) → length W ≡ out → w ≡ W ++ drop out w₀ → w′ ≡ take out w ++ (X ++ drop (out + n) w) → w′ ≡ (W ++ X) ++ drop (out + n) w₀
@@ -55,6 +55,44 @@ module _ (k : ℕ) (vs l : List (List ℕ)) (i : ℕ) (d r : List ℕ) (h : i < 
       pushed (writes termRow s) (take 8 (drop (8 * i) rows)) w₀ w w′ out 8 (bytes-of-rows s out oe) we g
       ∙ ap (λ (x : List ℕ). x ++ drop (out + 8) w₀)
       (sym (ap (writes termRow) (more-other k vs l i d r h q e) ∙ writes-append termRow s (r ∷ []) ∙ ap (λ (x : List ℕ). writes termRow s ++ x) (one-row r ∙ ap (write termRow) re ∙ row-bytes rows i b z)))
+
+-- One row for one row: the rows settled so far stand before the others, which are as they were
+module _ (k : ℕ) (value rows₀ rows : List ℕ) (i : ℕ) (lv : length value ≡ 8) (h : 8 * i + 8 ≤ length rows₀) (we : rows ≡ writes termRow (settled k (rowTable value) (take i (rowTable rows₀))) ++ drop (8 * i) rows₀) where
+  within : i < length (rowTable rows₀)
+  within = omega (arith, row-table-length rows₀)
+
+  done-rows : 8 * i ≡ 8 * length (settled k (rowTable value) (take i (rowTable rows₀)))
+  done-rows =
+      let n : length (settled k (rowTable value) (take i (rowTable rows₀))) ≡ i =
+      settled-length k (rowTable value) (omega (arith, row-table-length value)) (take i (rowTable rows₀)) ∙ length-take-le i (rowTable rows₀) (omega (arith, within)) in
+      omega (arith, n)
+
+  pub same-rest : drop (8 * i) rows ≡ drop (8 * i) rows₀
+  same-rest = ap (drop (8 * i)) we ∙ drop-at (writes termRow (settled k (rowTable value) (take i (rowTable rows₀)))) (drop (8 * i) rows₀) (8 * i) (bytes-of-rows _ (8 * i) done-rows)
+
+  module _ (r : List ℕ) (re : r ≡ read termRow (drop (8 * i) rows)) where
+    is-row : r ≡ read termRow (drop (8 * i) rows₀)
+    is-row = re ∙ ap (read termRow) same-rest
+
+    at-row : getD (rowTable rows₀) i [] ≡ r
+    at-row = row-table-at rows₀ i [] (omega arith) ∙ sym is-row
+
+    next-row : 8 * i + 8 ≡ 8 * (i + 1)
+    next-row = omega arith
+
+    pub each-due : AllBytes value → isDue k r ≡ true → (rows′ : List ℕ) → rows′ ≡ take (8 * i) rows ++ (take 8 (drop 0 value) ++ drop (8 * i + 8) rows)
+        → rows′ ≡ writes termRow (settled k (rowTable value) (take (i + 1) (rowTable rows₀))) ++ drop (8 * (i + 1)) rows₀
+    each-due b e rows′ g =
+        push-due k (rowTable value) (rowTable rows₀) i [] r within at-row rows₀ rows rows′ (8 * i) done-rows we value 8 e (table-bytes value b (omega arith)) (sym lv) g
+        ∙ ap (λ (n : ℕ). writes termRow (settled k (rowTable value) (take (i + 1) (rowTable rows₀))) ++ drop n rows₀) next-row
+
+    -- a row that stands where it is to go
+    pub each-other : AllBytes rows₀ → isDue k r ≡ false → rows ≡ writes termRow (settled k (rowTable value) (take (i + 1) (rowTable rows₀))) ++ drop (8 * (i + 1)) rows₀
+    each-other b e =
+        let stands : rows ≡ take (8 * i) rows ++ (take 8 (drop (8 * i) rows₀) ++ drop (8 * i + 8) rows) =
+        sym (take-append-drop (8 * i) rows) ∙ ap (λ (x : List ℕ). take (8 * i) rows ++ x) (sym (take-append-drop 8 (drop (8 * i) rows)) ∙ rw (drop-drop 8 (8 * i) rows, same-rest) refl) in
+        push-other k (rowTable value) (rowTable rows₀) i [] r within at-row rows₀ rows rows (8 * i) done-rows we rows₀ b h is-row e stands
+        ∙ ap (λ (n : ℕ). writes termRow (settled k (rowTable value) (take (i + 1) (rowTable rows₀))) ++ drop n rows₀) next-row
 
 pub all-cleared : (d b : List ℕ) (n : ℕ) → length d ≡ n → b ≡ take 0 d ++ (replicate (n - 0) 0 ++ drop n d) → b ≡ replicate n 0
 all-cleared d b n h e = let z : n - 0 ≡ n = omega arith in e ∙ rw (z, drop-of-length-le d {i = n} (omega arith)) (append-nil (replicate n 0))
@@ -108,6 +146,16 @@ module _ (s : List ℕ) (u f k : ℕ) (vs : List (List ℕ)) (h : u ≤ length s
         ∙ sym (append-assoc (take (8 * f) s) xb (drop n t ++ d)))
         ∙ take-at (take (8 * f) s ++ xb) (drop n t ++ d) (8 * (f + n / 8)) l
         ∙ sym w
+
+-- one row for one row in a space of which u bytes are used
+module _ (s value y : List ℕ) (u k : ℕ) (h : u ≤ length s) (whole : u ≡ 8 * (u / 8)) (lv : length value ≡ 8) (ye : y ≡ writes termRow (settled k (rowTable value) (rowTable (take u s)))) where
+  pub each-count : u / 8 ≡ length (settled k (rowTable value) (rowTable (take u s)))
+  each-count =
+      let n = settled-length k (rowTable value) (omega (arith, row-table-length value)) (rowTable (take u s)) in
+      omega (arith, n, row-table-length (take u s), length-take-le u s h)
+
+  pub each-bytes : take (8 * (u / 8)) (y ++ drop u s) ≡ writes termRow (settled k (rowTable value) (rowTable (take u s)))
+  each-bytes = take-at y (drop u s) (8 * (u / 8)) (ap length ye ∙ bytes-of-rows _ (8 * (u / 8)) (omega (arith, each-count))) ∙ ye
 
 -- a part that comes back is as long as it was
 pub mid-length : (b y : List ℕ) (p q : ℕ) → p + q ≤ length b → length y ≡ q → length (take p b ++ (y ++ drop q (drop p b))) ≡ length b

@@ -1,7 +1,7 @@
 -- Rows settled one after the other, and where the first future of the number stands. Assumes nothing.
-use Prim.Native.Nat.{ℕ, _+_, _<_, _≤_}
+use Prim.Native.Nat.{ℕ, suc, _+_, _<_, _≤_}
 use mathlib.Core.Path.{_≡_, refl, ap, sym, _∙_}
-use mathlib.Core.Bool.{true, false, cond}
+use mathlib.Core.Bool.{Bool, true, false, cond}
 use mathlib.Core.List.{List, [], _∷_, _++_, append-assoc, append-nil}
 use native.Mathlib.Omega.{arith}
 use native.Mathlib.Numerals.{add-one}
@@ -66,6 +66,16 @@ module _ (k : ℕ) (vs : List (List ℕ)) where
 
   pub all-rows : (l : List (List ℕ)) (i : ℕ) → length l ≤ i → settled k vs (take i l) ≡ settled k vs l
   all-rows l i h = ap (settled k vs) (take-all i l h)
+
+  -- one row for one row
+  pub settled-length : length vs ≡ 1 → (l : List (List ℕ)) → length (settled k vs l) ≡ length l
+  unfolding settled
+  settled-length e [] = refl
+  settled-length e (r ∷ l) = go (isDue k r) ∙ ap suc (settled-length e l)
+    where
+      go : (b : Bool) → length (cond b vs (r ∷ []) ++ settled k vs l) ≡ suc (length (settled k vs l))
+      go true = length-append vs (settled k vs l) ∙ omega (arith, e)
+      go false = refl
 
   pub no-rows : (l : List (List ℕ)) → settled k vs (take 0 l) ≡ []
   unfolding settled

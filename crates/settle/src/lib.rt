@@ -24,8 +24,8 @@ fn is_due(r: Row, number: u32) -> bool
     r.word == number
 }
 
-// How many rows there are once the reply's rows stand for each future of the number.
-pub fn rows_after(rows: &[u8], value: &[u8], number: u32) -> usize
+// How many rows there are once the reply's rows stand for each future of the number, counted.
+fn count_after(rows: &[u8], value: &[u8], number: u32) -> usize
     requires { ⌜ (length (now rows) ≤ 16384) × (length (now value) ≤ 2048) ⌝ }
     ensures { λ n. ⌜ n ≡ length (settled number (rowTable (now (value .entry))) (rowTable (now (rows .entry)))) ⌝ }
 {
@@ -43,6 +43,17 @@ pub fn rows_after(rows: &[u8], value: &[u8], number: u32) -> usize
         }
     }
     total
+}
+
+// The same. A reply of one row changes no count.
+pub fn rows_after(rows: &[u8], value: &[u8], number: u32) -> usize
+    requires { ⌜ (length (now rows) ≤ 16384) × (length (now value) ≤ 2048) ⌝ }
+    ensures { λ n. ⌜ n ≡ length (settled number (rowTable (now (value .entry))) (rowTable (now (rows .entry)))) ⌝ }
+{
+    if layout::term_rows(value) == 1 {
+        return layout::term_rows(rows);
+    }
+    count_after(rows, value, number)
 }
 
 // The first row that is a future of the number, or how many rows there are.
@@ -82,9 +93,26 @@ fn settle_rows(work: &mut [u8], rows: &[u8], value: &[u8], number: u32) -> usize
     out
 }
 
+// A reply of one row comes to stand in the place of each future of the number.
+fn settle_each(rows: &mut [u8], value: &[u8], number: u32)
+    requires { ⌜ (length (now rows) ≡ 8 * (length (now rows) / 8)) × (length (now value) ≡ 8) ⌝ }
+    ensures { λ _. ⌜ now (rows .exit) ≡ writes termRow (settled number (rowTable (now (value .entry))) (rowTable (now (rows .entry)))) ⌝ }
+{
+    let all = layout::term_rows(rows);
+    let mut i = 0;
+    while i < all {
+        if is_due(layout::row_at(rows, i), number) {
+            layout::copy_row(rows, layout::TERM_ROW * i, value, 0);
+            i += 1;
+        } else {
+            i += 1;
+        }
+    }
+}
+
 // The term in a record's row space, `used` bytes of it, settled by way of the work buffer, which is cleared: the tail from the first
 // future on is lent to the copying function. How many rows the term has.
-fn settle_term(space: &mut [u8], used: usize, work: &mut [u8], value: &[u8], number: u32) -> usize
+fn settle_tail(space: &mut [u8], used: usize, work: &mut [u8], value: &[u8], number: u32) -> usize
     requires { ⌜ Fitting (now space) used (now work) (now value) number ⌝ }
     ensures { λ n. ⌜ Settles (now (space .entry)) used (now (work .entry)) (now (value .entry)) number n (now (space .exit)) (now (work .exit)) ⌝ }
 {
@@ -95,6 +123,20 @@ fn settle_term(space: &mut [u8], used: usize, work: &mut [u8], value: &[u8], num
     let end = work.len();
     layout::clear(work, 0, end);
     first + n / layout::TERM_ROW
+}
+
+// The same. A reply of one row goes to its places at once.
+fn settle_term(space: &mut [u8], used: usize, work: &mut [u8], value: &[u8], number: u32) -> usize
+    requires { ⌜ Fitting (now space) used (now work) (now value) number ⌝ }
+    ensures { λ n. ⌜ Settles (now (space .entry)) used (now (work .entry)) (now (value .entry)) number n (now (space .exit)) (now (work .exit)) ⌝ }
+{
+    if value.len() == layout::TERM_ROW {
+        settle_each(&mut space[..used], value, number);
+        let all = work.len();
+        layout::clear(work, 0, all);
+        return used / layout::TERM_ROW;
+    }
+    settle_tail(space, used, work, value, number)
 }
 
 // An accepted reply's record, and a work buffer of zeros.
