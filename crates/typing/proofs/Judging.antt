@@ -24,6 +24,11 @@ use Rattle.typing.specs.Scope.{behind, judged, innerOf, Inner}
 use Rattle.rules.proofs.ByRule.{and-true, and-comm, rule-apply, rule-tuple}
 use Rattle.typing.proofs.ByRow.{code-at, tree-in, numbers-comm, tys-more, tys-none, tys-three, rule-any, scope-none, behind-in}
 
+no-types : (l : List Row) (j n x y z : ℕ) → n ≡ 0 → tys (grove l j n) ≡ three n x y z
+unfolding three
+no-types l j zero x y z e = tys-none l j
+no-types l j (suc n) x y z e = absurd (omega arith)
+
 module _ (s b : List ℕ) (i k n ty w : ℕ) (h : i < length b / 8) (e : k ∷ n ∷ ty ∷ w ∷ [] ≡ read termRow (drop (8 * i) b)) where
   abbrev F : ℕ → Form
   F = forms s
@@ -139,6 +144,9 @@ module _ (s b : List ℕ) (i k n ty w : ℕ) (h : i < length b / 8) (e : k ∷ n
         ey,
         ez,
       ) refl)
+
+  pub judged-leaf : (x y z : ℕ) → FixedKind k → arity (headFrom k n w) ≡ 0 → judged F empty (treeAt l i) ≡ ruleOk F empty (headFrom k n w) ty (three (arity (headFrom k n w)) x y z)
+  judged-leaf x y z f none = judged-plain empty (f .no-fix) ∙ ap (ruleOk F empty (headFrom k n w) ty) (no-types l (i + 1) (arity (headFrom k n w)) x y z none)
 
 -- Binders --------------------------------------------------------------------------------------------------------
 

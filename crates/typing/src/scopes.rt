@@ -69,8 +69,16 @@ fn tuple_ok(types: &[u8], rows: &[u8], ends: &[u16], i: usize) -> bool
     stated::same_types(types, r.ty, rows, ends, i + 1, r.n as usize)
 }
 
+// A row of the other kinds that has no children.
+fn leaf_ok(types: &[u8], rows: &[u8], i: usize) -> bool
+    requires { ⌜ (i < length (now rows) / 8) × FixedKind (kindNo (read termRow (drop (8 * i) (now rows)))) × (arity (rowOf (read termRow (drop (8 * i) (now rows))) .head) ≡ 0) ⌝ }
+    ensures { λ r. ⌜ r ≡ judged (forms (now (types .entry))) empty (treeAt (termRows (now (rows .entry))) i) ⌝ }
+{
+    rules::fixed_ok(types, layout::row_at(rows, i), 0, 0, 0)
+}
+
 // A row of the other kinds, by what its first three children state.
-fn other_ok(types: &[u8], rows: &[u8], ends: &[u16], i: usize) -> bool
+fn fixed_ok(types: &[u8], rows: &[u8], ends: &[u16], i: usize) -> bool
     requires { ⌜ Ready (now rows) (now ends) × (i < length (now rows) / 8) × FixedKind (kindNo (read termRow (drop (8 * i) (now rows)))) ⌝ }
     ensures { λ r. ⌜ r ≡ judged (forms (now (types .entry))) empty (treeAt (termRows (now (rows .entry))) i) ⌝ }
 {
@@ -82,6 +90,17 @@ fn other_ok(types: &[u8], rows: &[u8], ends: &[u16], i: usize) -> bool
     let b = stated::type_at(rows, q);
     let c = stated::type_at(rows, s);
     rules::fixed_ok(types, r, a, b, c)
+}
+
+// A row of the other kinds.
+fn other_ok(types: &[u8], rows: &[u8], ends: &[u16], i: usize) -> bool
+    requires { ⌜ Ready (now rows) (now ends) × (i < length (now rows) / 8) × FixedKind (kindNo (read termRow (drop (8 * i) (now rows)))) ⌝ }
+    ensures { λ r. ⌜ r ≡ judged (forms (now (types .entry))) empty (treeAt (termRows (now (rows .entry))) i) ⌝ }
+{
+    if terms::children(layout::row_at(rows, i)) == 0 {
+        return leaf_ok(types, rows, i);
+    }
+    fixed_ok(types, rows, ends, i)
 }
 
 // Whether row i keeps its rule.
