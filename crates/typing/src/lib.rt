@@ -5,6 +5,8 @@ pub mod stated;
 
 use layout::Found;
 ghost use mathlib.Core.Path.{_≡_};
+ghost use mathlib.Core.Bool.{true};
+ghost use mathlib.Core.Option.{none};
 ghost use Prim.Native.Nat.{_/_, _≤_};
 ghost use lib.ListN.{length};
 ghost use Rattle.layout.specs.Rows.{found, typeTable, termRows};
@@ -44,4 +46,26 @@ pub fn first_bad(types: &[u8], rows: &[u8]) -> Found
     terms::ends(rows, &mut ends);
     let mut scope = [0u16; 2048];
     judge(types, rows, &ends, &mut scope)
+}
+
+// Whether row i, which has no children, is seen by itself to fail typing.
+pub fn leaf_fails(types: &[u8], rows: &[u8], i: usize) -> bool
+    requires { ⌜ Closed (termRows (now rows)) (length (now rows) / 8) ⌝ }
+    ensures { λ b. ⌜ (b ≡ true → firstBad (formOf (typeTable (now (types .entry)))) empty (treeOf (termRows (now (rows .entry)))) ≡ none → ⊥) ⌝ }
+{
+    if layout::term_rows(rows) <= i {
+        return false;
+    }
+    let r = layout::row_at(rows, i);
+    if terms::children(r) != 0 {
+        return false;
+    }
+    let k = r.kind;
+    match k {
+        5 => false,
+        8 => false,
+        11 => false,
+        16 => false,
+        _ => !scopes::leaf_ok(types, rows, i),
+    }
 }

@@ -70,7 +70,7 @@ fn tuple_ok(types: &[u8], rows: &[u8], ends: &[u16], i: usize) -> bool
 }
 
 // A row of the other kinds that has no children.
-fn leaf_ok(types: &[u8], rows: &[u8], i: usize) -> bool
+pub fn leaf_ok(types: &[u8], rows: &[u8], i: usize) -> bool
     requires { ⌜ (i < length (now rows) / 8) × FixedKind (kindNo (read termRow (drop (8 * i) (now rows)))) × (arity (rowOf (read termRow (drop (8 * i) (now rows))) .head) ≡ 0) ⌝ }
     ensures { λ r. ⌜ r ≡ judged (forms (now (types .entry))) empty (treeAt (termRows (now (rows .entry))) i) ⌝ }
 {
