@@ -7,7 +7,7 @@ use mathlib.Core.Option.{none, some}
 use native.Mathlib.Omega.{arith}
 use native.Mathlib.Decide.{ℕ-discrete, decLt}
 use lib.Dec.{leb, ltb}
-use borrow.Author.Tests.{ne-eqb, le-leb, lt-leb}
+use borrow.Author.Tests.{ne-eqb, le-leb, lt-leb, lt-ltb, le-ltb}
 use lib.ListN.{getD, List·getD-eq-default}
 use Rattle.meaning.specs.Bytes.{_∧ᵇ_, within}
 use Rattle.meaning.specs.Terms.{lit, str, arity, headFrom, Fields, words-from, none-used, kindFields, lastKind, withinOne, fits, rowFault}
@@ -114,18 +114,33 @@ unfolding _∧ᵇ_
 never true = refl
 never false = refl
 
-none-then : (b : Bool) → false ∧ᵇ b ≡ false
-unfolding _∧ᵇ_
-none-then b = refl
+-- two ranges, test by test
+module _ (k n t w low high least most : ℕ) where
+  abbrev Fit : Bool → Type 0
+  Fit b = b ≡ fits record { nLow = low; nHigh = high; words = words-from least most } (k ∷ n ∷ t ∷ w ∷ [])
+
+  pub few-n : n < low → Fit false
+  unfolding fits within _∧ᵇ_
+  few-n a = rw (lt-leb low n a)
+
+  pub many-n : low ≤ n → high < n → Fit false
+  unfolding fits within _∧ᵇ_
+  many-n a b = rw (le-leb low n a, lt-leb n high b)
+
+  pub few-word : low ≤ n → n ≤ high → w < least → Fit false
+  unfolding fits within withinOne _∧ᵇ_
+  few-word a b c = rw (le-leb low n a, le-leb n high b, lt-leb least w c)
+
+  pub last-word : low ≤ n → n ≤ high → least ≤ w → Fit (leb w most)
+  unfolding fits within withinOne _∧ᵇ_
+  last-word a b c = rw (le-leb low n a, le-leb n high b, le-leb least w c) (same (leb w most))
+    where
+      same : (b : Bool) → b ≡ cond b true false
+      same true = refl
+      same false = refl
 
 -- the fault of a row of the four numbers k, n, t, w, test by test
 module _ (edition count k n t w : ℕ) where
-  abbrev row : List ℕ
-  row = k ∷ n ∷ t ∷ w ∷ []
-
-  abbrev field : Fields
-  field = getD kindFields k none-used
-
   pub no-kind : k ≡ 0 → rowFault edition count (k ∷ n ∷ t ∷ w ∷ []) ≡ some Kind
   unfolding rowFault within _∧ᵇ_
   no-kind e = rw e refl
@@ -135,40 +150,16 @@ module _ (edition count k n t w : ℕ) where
   kind-high h = rw (lt-leb k (lastKind edition) h, never (leb 1 k)) refl
 
   module _ (h : 1 ≤ k) (g : k ≤ lastKind edition) where
-    known : rowFault edition count row ≡ cond (fits field row) (cond (ltb t count) none (some Number)) (some Field)
+    known : rowFault edition count (k ∷ n ∷ t ∷ w ∷ []) ≡ cond (fits (getD kindFields k none-used) (k ∷ n ∷ t ∷ w ∷ [])) (cond (ltb t count) none (some Number)) (some Field)
     unfolding rowFault within _∧ᵇ_
     known = rw (le-leb 1 k h, le-leb k (lastKind edition) g) refl
 
-    pub n-few : n < field .nLow → rowFault edition count (k ∷ n ∷ t ∷ w ∷ []) ≡ some Field
-    unfolding fits within _∧ᵇ_
-    n-few a = known ∙ rw (lt-leb (field .nLow) n a) refl
+    module _ (b : Bool) (e : b ≡ fits (getD kindFields k none-used) (k ∷ n ∷ t ∷ w ∷ [])) where
+      pub misfit : b ≡ false → rowFault edition count (k ∷ n ∷ t ∷ w ∷ []) ≡ some Field
+      misfit f = known ∙ rw (← e, f) refl
 
-    pub n-many : field .nHigh < n → rowFault edition count (k ∷ n ∷ t ∷ w ∷ []) ≡ some Field
-    unfolding fits within
-    n-many a = known ∙ rw (lt-leb n (field .nHigh) a, never (leb (field .nLow) n)) (rw (none-then (withinOne (field .words) w)) refl)
+      pub no-number : b ≡ true → count ≤ t → rowFault edition count (k ∷ n ∷ t ∷ w ∷ []) ≡ some Number
+      no-number f z = known ∙ rw (← e, f, le-ltb t count z) refl
 
-    -- where the words are of one range
-    module _ (least most : ℕ) (one : field .words ≡ words-from least most) where
-      word-range : withinOne (field .words) w ≡ within least most w
-      unfolding withinOne
-      word-range = rw one (same (within least most w))
-        where
-          same : (b : Bool) → cond b true false ≡ b
-          same true = refl
-          same false = refl
-
-      no-word : within least most w ≡ false → rowFault edition count (k ∷ n ∷ t ∷ w ∷ []) ≡ some Field
-      unfolding fits
-      no-word e = known ∙ rw (word-range, e, never (within (field .nLow) (field .nHigh) n)) refl
-
-      pub w-few : w < least → rowFault edition count (k ∷ n ∷ t ∷ w ∷ []) ≡ some Field
-      unfolding within
-      w-few a = no-word (rw (lt-leb least w a, none-then (leb w most)) refl)
-
-      pub w-many : most < w → rowFault edition count (k ∷ n ∷ t ∷ w ∷ []) ≡ some Field
-      unfolding within
-      w-many a = no-word (rw (lt-leb w most a, never (leb least w)) refl)
-
-      pub in-range : field .nLow ≤ n → n ≤ field .nHigh → least ≤ w → w ≤ most → rowFault edition count (k ∷ n ∷ t ∷ w ∷ []) ≡ cond (ltb t count) none (some Number)
-      unfolding fits within _∧ᵇ_
-      in-range a b c d = known ∙ rw (word-range, le-leb (field .nLow) n a, le-leb n (field .nHigh) b, le-leb least w c, le-leb w most d) refl
+      pub no-fault : b ≡ true → t < count → rowFault edition count (k ∷ n ∷ t ∷ w ∷ []) ≡ none
+      no-fault f z = known ∙ rw (← e, f, lt-ltb t count z) refl

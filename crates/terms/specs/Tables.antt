@@ -5,18 +5,13 @@ use mathlib.Core.List.{List}
 use mathlib.Core.Option.{Option, none, some}
 use lib.ListN.{length, getD}
 use Rattle.meaning.specs.declared.Fault.{Fault}
-use Rattle.meaning.specs.Terms.{Row, Fields, words-from, size, treeAt}
-use Rattle.terms.specs.declared.Fields as F
+use Rattle.meaning.specs.Terms.{Row, size, treeAt}
 use Rattle.terms.specs.declared.Faulty.{Faulty}
 use Rattle.terms.specs.declared.Faulty.the-variants as variants
 
 abbrev pub faultOf : Faulty → Option Fault
 faultOf variants.Sane = none
 faultOf (variants.Faulty f) = some f
-
--- the ranges of n and word that code has for a kind
-abbrev pub fields : F.Fields → Fields
-fields f = record { nLow = f .least; nHigh = f .most; words = words-from (f .low) (f .high) }
 
 -- the rows are one tree, and each row's tree ends within them
 pub record Closed (l : List Row) (rows : ℕ) : Type 0 where

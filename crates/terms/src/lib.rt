@@ -1,5 +1,6 @@
 // Tables of term rows as trees: how many children a row has, whether a table is one whole tree (refusals 7 and 13), and where each
 // tree ends.
+pub mod fields;
 pub mod masks;
 
 use layout::Row;
@@ -7,23 +8,15 @@ use meaning::Fault;
 use meaning::Shape;
 ghost use mathlib.Core.Path.{_≡_};
 ghost use Prim.Native.Nat.{_+_, _/_, _≤_};
-ghost use lib.ListN.{length, getD};
+ghost use lib.ListN.{length};
 ghost use Rattle.layout.specs.Rows.{numbers, rowTable, termRows};
-ghost use Rattle.meaning.specs.Terms.{arity, rowOf, size, treeAt, rowFault, shape, lastKind, any-word, a-number, an-n, none-used, kindFields};
-ghost use Rattle.terms.specs.Tables.{faultOf, fields, hop, HopsIn, Closed, Ends};
+ghost use Rattle.meaning.specs.Terms.{arity, rowOf, size, treeAt, rowFault, shape, lastKind};
+ghost use Rattle.terms.specs.Tables.{faultOf, hop, HopsIn, Closed, Ends};
 
 // Whether a row's kind, fields and type number are in range.
 pub enum Faulty {
     Sane,
     Faulty(Fault),
-}
-
-// Of a kind: the least and the most that n may be, the lowest and the highest word.
-pub struct Fields {
-    pub least: u8,
-    pub most: u8,
-    pub low: u32,
-    pub high: u32,
 }
 
 // Two bits a kind, kind 0 the lowest: how many children a row of the kind has, those that n counts not among them.
@@ -47,60 +40,6 @@ pub fn children(r: Row) -> usize
     c
 }
 
-// A word of any value; a number from 1 to 65,535; an n from `low` to `high`.
-fn any_word() -> Fields
-    ensures { λ f. ⌜ fields f ≡ any-word ⌝ }
-{
-    Fields {
-        least: 0,
-        most: 0,
-        low: 0,
-        high: 4294967295,
-    }
-}
-
-fn a_number() -> Fields
-    ensures { λ f. ⌜ fields f ≡ a-number ⌝ }
-{
-    Fields {
-        least: 0,
-        most: 0,
-        low: 1,
-        high: 65535,
-    }
-}
-
-fn an_n(low: u8, high: u8) -> Fields
-    ensures { λ f. ⌜ fields f ≡ an-n low high ⌝ }
-{
-    Fields {
-        least: low,
-        most: high,
-        low: 0,
-        high: 0,
-    }
-}
-
-// What n and word of a kind may be: by cases and not by arrays, which would be written out anew at each row.
-fn fields_of(k: u8) -> Fields
-    ensures { λ f. ⌜ fields f ≡ getD kindFields k none-used ⌝ }
-{
-    match k {
-        1 => any_word(),
-        2 => any_word(),
-        5 => a_number(),
-        7 => a_number(),
-        8 => an_n(0, 8),
-        9 => a_number(),
-        15 => an_n(1, 255),
-        16 => an_n(1, 8),
-        17 => an_n(1, 8),
-        18 => an_n(1, 8),
-        19 => a_number(),
-        _ => an_n(0, 0),
-    }
-}
-
 // The last kind that an edition of the file knows.
 fn last_kind(edition: u16) -> u8
     ensures { λ r. ⌜ (r ≡ lastKind edition) × (r ≤ 19) ⌝ }
@@ -122,19 +61,7 @@ pub fn row_fault(r: Row, count: u16, edition: u16) -> Faulty
     if last_kind(edition) < k {
         return Faulty::Faulty(Fault::Kind);
     }
-    let f = fields_of(k);
-    let n = r.n;
-    if n < f.least {
-        return Faulty::Faulty(Fault::Field);
-    }
-    if f.most < n {
-        return Faulty::Faulty(Fault::Field);
-    }
-    let w = r.word;
-    if w < f.low {
-        return Faulty::Faulty(Fault::Field);
-    }
-    if f.high < w {
+    if !fields::fit(r) {
         return Faulty::Faulty(Fault::Field);
     }
     let t = r.ty;
