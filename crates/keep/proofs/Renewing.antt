@@ -1,17 +1,17 @@
 -- The bytes of a record that is renewed, part by part. Assumes nothing.
-use Prim.Native.Nat.{ℕ, zero, suc, _+_, _*_, _-_, _%_, _/_, _≤_}
+use Prim.Native.Nat.{ℕ, _+_, _*_, _-_, _≤_}
 use mathlib.Core.Path.{_≡_, refl, ap, sym, _∙_}
-use mathlib.Core.List.{List, [], _∷_, _++_, map, append-assoc, append-nil}
+use mathlib.Core.List.{List, [], _++_, map, append-assoc, append-nil}
 use native.Mathlib.Omega.{arith}
 use lib.ListN.{length, take, drop, replicate, length-append, length-map, length-drop, drop-of-length-le}
-use lib.Seq.{sets, take-add, take-at, drop-at, take-append-le, drop-append-add, length-take-le}
-use Rattle.meaning.specs.Bytes.{spell, width, write, writes, padded, typeRow, termRow, entryRow, recordHead, Limits, typesAt, callsAt, rowsAt, recordBytes}
+use lib.Seq.{sets, take-add, take-at, drop-at, drop-append-add, length-take-le}
+use Rattle.meaning.specs.Bytes.{spell, width, write, writes, padded, typeRow, termRow, entryRow, recordHead, Limits, callsAt, rowsAt, recordBytes}
 use Rattle.meaning.specs.Terms.{Tree, flat, size, raw}
-use Rattle.meaning.specs.Records.{State, Entry, recordMark, rawEntry, headNumbers, recordOf}
+use Rattle.meaning.specs.Records.{State, Entry, rawEntry, headNumbers, recordOf}
 use Rattle.meaning.specs.Entries.{stepped}
 use Rattle.meaning.proofs.Trees.Parse.{length-flat}
 use Rattle.meaning.proofs.Bytes.Layouts.{padded-length, length-write, length-writes}
-use Rattle.keep.specs.Keep.{recalled, Roomy, Holding, RowsRenewed, CallsRenewed}
+use Rattle.keep.specs.Keep.{recalled, Roomy, RowsRenewed, CallsRenewed}
 
 -- where the parts begin
 pub record Sizes (m : Limits) : Type 0 where
@@ -68,6 +68,25 @@ rows-renewed m kept k₁ k₂ rows n h e f s t g =
     let y : termPart m t ≡ w ++ z = ap (λ (y : ℕ). w ++ replicate (8 * m .rows - y) 0) l in
     let q : recordOf m (stepped s t) ≡ write recordHead (headNumbers (stepped s t)) ++ (behindHead m (stepped s t) ++ termPart m t) = in-parts m (stepped s t) ∙ append-assoc (write recordHead (headNumbers (stepped s t))) (behindHead m (stepped s t)) (termPart m t) in
     x ∙ ap (λ (v : List ℕ). write recordHead (headNumbers (stepped s t)) ++ (rest ++ v)) (sym y) ∙ sym q
+
+-- other rows, as many: the header is as it was, and so is what stands behind the rows
+pub rows-replaced : (m : Limits) (kept k : List ℕ) (s : State) (t : Tree) → Roomy m s → kept ≡ recordOf m s → size t ≡ size (s .tree)
+    → k ≡ take (rowsAt m) kept ++ (writes termRow (map raw (flat t)) ++ drop (rowsAt m + 8 * size t) kept) → k ≡ recordOf m (stepped s t)
+unfolding width padded stepped headNumbers
+rows-replaced m kept k s t r e c f =
+    let front = write recordHead (headNumbers s) ++ behindHead m s in
+    let front′ = write recordHead (headNumbers (stepped s t)) ++ behindHead m (stepped s t) in
+    let same : front ≡ front′ = rw c refl in
+    let w = writes termRow (map raw (flat t)) in
+    let w₀ = writes termRow (map raw (flat (s .tree))) in
+    let z : List ℕ = replicate (8 * m .rows - 8 * size t) 0 in
+    let n : length w ≡ 8 * size t = length-writes termRow (map raw (flat t)) ∙ rw (length-map, length-flat t) refl in
+    let n₀ : length w₀ ≡ 8 * size t = length-writes termRow (map raw (flat (s .tree))) ∙ rw (length-map, length-flat (s .tree), c) refl in
+    let b : kept ≡ front ++ (w₀ ++ z) = e ∙ in-parts m s ∙ ap (λ (i : ℕ). front ++ (w₀ ++ replicate (8 * m .rows - i) 0)) n₀ in
+    let u : take (rowsAt m) kept ≡ front = ap (take (rowsAt m)) b ∙ take-at front (w₀ ++ z) (rowsAt m) (front-length m s r) in
+    let v : drop (rowsAt m + 8 * size t) kept ≡ z =
+    ap (drop (rowsAt m + 8 * size t)) b ∙ rw (← (front-length m s r)) (drop-append-add front (w₀ ++ z) (8 * size t)) ∙ drop-at w₀ z (8 * size t) n₀ in
+    f ∙ rw (u, v) (ap (λ (x : List ℕ). x ++ (w ++ z)) same ∙ sym (in-parts m (stepped s t) ∙ ap (λ (i : ℕ). front′ ++ (w ++ replicate (8 * m .rows - i) 0)) n))
 
 pub head-calls : (s : State) (calls : List Entry) (next : ℕ) (x : List ℕ)
     → sets (sets (write recordHead (headNumbers s) ++ x) 10 (spell 2 (length calls))) 12 (spell 4 next) ≡ write recordHead (headNumbers (recalled s calls next)) ++ x

@@ -147,16 +147,6 @@ module _ (s : List ℕ) (u f k : ℕ) (vs : List (List ℕ)) (h : u ≤ length s
         ∙ take-at (take (8 * f) s ++ xb) (drop n t ++ d) (8 * (f + n / 8)) l
         ∙ sym w
 
--- one row for one row in a space of which u bytes are used
-module _ (s value y : List ℕ) (u k : ℕ) (h : u ≤ length s) (whole : u ≡ 8 * (u / 8)) (lv : length value ≡ 8) (ye : y ≡ writes termRow (settled k (rowTable value) (rowTable (take u s)))) where
-  pub each-count : u / 8 ≡ length (settled k (rowTable value) (rowTable (take u s)))
-  each-count =
-      let n = settled-length k (rowTable value) (omega (arith, row-table-length value)) (rowTable (take u s)) in
-      omega (arith, n, row-table-length (take u s), length-take-le u s h)
-
-  pub each-bytes : take (8 * (u / 8)) (y ++ drop u s) ≡ writes termRow (settled k (rowTable value) (rowTable (take u s)))
-  each-bytes = take-at y (drop u s) (8 * (u / 8)) (ap length ye ∙ bytes-of-rows _ (8 * (u / 8)) (omega (arith, each-count))) ∙ ye
-
 -- a part that comes back is as long as it was
 pub mid-length : (b y : List ℕ) (p q : ℕ) → p + q ≤ length b → length y ≡ q → length (take p b ++ (y ++ drop q (drop p b))) ≡ length b
 mid-length b y p q h e =

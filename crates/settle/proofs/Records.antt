@@ -5,7 +5,7 @@ use mathlib.Core.Bool.{true}
 use mathlib.Core.List.{List, [], _++_, map, append-nil}
 use native.Mathlib.Omega.{arith}
 use lib.ListN.{length, take, drop, length-drop, length-map, drop-of-length-le}
-use lib.Seq.{take-at, take-take, drop-at, length-take-le}
+use lib.Seq.{take-at, take-take, drop-at, drop-drop, length-take-le}
 use Rattle.meaning.specs.Bytes.{writes, termRow, rowsAt}
 use Rattle.meaning.specs.Terms.{flat, size, raw}
 use Rattle.meaning.specs.Records.{State, Entry, recordOf, typeCount, rowCount, nextNumber, rowsIn, stateOf, sound}
@@ -16,11 +16,13 @@ use Rattle.meaning.proofs.Bytes.Records.{Small, Good, good-state, record-state,
 use Rattle.meaning.proofs.Entries.Replying.{accepted-reply, reply-tree}
 use Rattle.layout.specs.declared.Limits.{Limits}
 use Rattle.layout.specs.Rows.{board, typeTable, rowTable}
-use Rattle.layout.proofs.Tables.{row-table-cut}
+use Rattle.layout.proofs.Tables.{row-table-length, row-table-cut}
 use Rattle.sound.specs.Ready.{Ready}
 use Rattle.sound.proofs.Parts.{sizes, types-table, rows-table}
 use Rattle.keep.specs.Keep.{Roomy, Holding, recalled}
+use Rattle.keep.proofs.Renewing.{rows-replaced}
 use Rattle.settle.specs.Settled.{settled, settledIn, Taken, Fitting}
+use Rattle.settle.proofs.Rows.{settled-length}
 use Rattle.settle.proofs.Trees.{rows-settled}
 use Rattle.settle.proofs.Verdicts.{Headed, headed, value-rows, value-length}
 
@@ -127,6 +129,19 @@ module _ (m : Limits) (b answer : List ℕ) (t : Taken m b answer) (bb : AllByte
               ∙ ap (take (rowsAt (board m))) (sym back);
           term = ap (λ (x : List ℕ). take (8 * r) (drop (rowsAt (board m)) x)) b₁-is ∙ ap (take (8 * r)) (drop-at (take p b) y (rowsAt (board m)) pl) ∙ ye ∙ ap (writes termRow) rows-are;
         }
+
+    -- a reply of one row: the rows are as many as they were
+    pub replaced : length value ≡ 8 → (b₁ y : List ℕ) (u : ℕ) → u ≡ 8 * n → y ≡ writes termRow (settled k (rowTable value) (rowTable (take u (drop p b)))) → b₁ ≡ take p b ++ (y ++ drop u (drop p b))
+        → b₁ ≡ recordOf (board m) (stepped held (replied .tree))
+    replaced lv b₁ y u ue ye be =
+        let z = sizes m b (t .ready) in
+        let cut : take (8 * n) (space p) ≡ take (8 * n) (drop p b) = take-take (8 * n) (length b - p) (drop p b) (omega (arith, z .long, z .rows-from, z .rows)) in
+        let used : length (rowTable (take (8 * n) (space p))) ≡ n = row-table-length (take (8 * n) (space p)) ∙ omega (arith, length-take-le (8 * n) (space p) (omega (arith, space-length, z .rows))) in
+        let old : size (held .tree) ≡ n = sym (length-map (flat (held .tree)) raw ∙ length-flat (held .tree)) ∙ sym (ap length used-table) ∙ used in
+        let new : size (replied .tree) ≡ n = sym rows-size ∙ settled-length k (rowTable value) (omega (arith, row-table-length value)) (rowTable (take (8 * n) (space p))) ∙ used in
+        let rows : y ≡ writes termRow (map raw (flat (replied .tree))) = ye ∙ ap (λ (i : ℕ). writes termRow (settled k (rowTable value) (rowTable (take i (drop p b))))) ue ∙ ap (λ (x : List ℕ). writes termRow (settled k (rowTable value) (rowTable x))) (sym cut) ∙ ap (writes termRow) rows-are in
+        let behind : drop u (drop p b) ≡ drop (rowsAt (board m) + 8 * size (replied .tree)) b = ap (λ (i : ℕ). drop i (drop p b)) ue ∙ drop-drop (8 * n) p b ∙ rw (pe, new) refl in
+        rows-replaced (board m) b b₁ held (replied .tree) roomy (sym back) (new ∙ sym old) (be ∙ rw (behind, rows, pe) refl)
 
     pub roomy-settled : Roomy (board m) (stepped held (replied .tree))
     unfolding stepped

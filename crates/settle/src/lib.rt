@@ -10,7 +10,7 @@ ghost use Prim.Native.Nat.{_+_, _*_, _/_, _≤_};
 ghost use lib.ListN.{length, drop, replicate};
 ghost use Rattle.meaning.specs.Bytes.{writes, termRow};
 ghost use Rattle.meaning.specs.Records.{recordOf, stateOf};
-ghost use Rattle.meaning.specs.Entries.{repliedState};
+ghost use Rattle.meaning.specs.Entries.{stepped, repliedState};
 ghost use Rattle.layout.specs.Rows.{board, numbers, rowTable};
 ghost use Rattle.settle.specs.Settled.{isDue, settled, Stands, Taken, Fitting, Settles};
 
@@ -112,7 +112,7 @@ fn settle_each(rows: &mut [u8], value: &[u8], number: u32)
 
 // The term in a record's row space, `used` bytes of it, settled by way of the work buffer, which is cleared: the tail from the first
 // future on is lent to the copying function. How many rows the term has.
-fn settle_tail(space: &mut [u8], used: usize, work: &mut [u8], value: &[u8], number: u32) -> usize
+fn settle_term(space: &mut [u8], used: usize, work: &mut [u8], value: &[u8], number: u32) -> usize
     requires { ⌜ Fitting (now space) used (now work) (now value) number ⌝ }
     ensures { λ n. ⌜ Settles (now (space .entry)) used (now (work .entry)) (now (value .entry)) number n (now (space .exit)) (now (work .exit)) ⌝ }
 {
@@ -125,18 +125,24 @@ fn settle_tail(space: &mut [u8], used: usize, work: &mut [u8], value: &[u8], num
     first + n / layout::TERM_ROW
 }
 
-// The same. A reply of one row goes to its places at once.
-fn settle_term(space: &mut [u8], used: usize, work: &mut [u8], value: &[u8], number: u32) -> usize
-    requires { ⌜ Fitting (now space) used (now work) (now value) number ⌝ }
-    ensures { λ n. ⌜ Settles (now (space .entry)) used (now (work .entry)) (now (value .entry)) number n (now (space .exit)) (now (work .exit)) ⌝ }
+// The term of an accepted reply's record, and a work buffer of zeros. A reply of one row goes to its places at once: it changes no count, and
+// nothing behind the rows.
+fn replace_term(kept: &mut [u8], work: &mut [u8], answer: &[u8], m: Limits)
+    requires { ⌜ (Taken m (now kept) (now answer)) × (8 * m .rows ≤ length (now work)) ⌝ }
+    ensures { λ _. ⌜ (now (kept .exit) ≡ recordOf (board m) (stepped (stateOf (board m) (now (kept .entry))) (repliedState (stateOf (board m) (now (kept .entry))) (now (answer .entry)) .tree))) × (now (work .exit) ≡ replicate (length (now (work .entry))) 0) ⌝ }
 {
+    let number = layout::u32_at(answer, 0);
+    let at = layout::rows_at(m);
+    let used = layout::TERM_ROW * sound::head::row_count(kept) as usize;
+    let value = &answer[layout::REPLY_HEAD..];
     if value.len() == layout::TERM_ROW {
-        settle_each(&mut space[..used], value, number);
+        settle_each(&mut kept[at..at + used], value, number);
         let all = work.len();
         layout::clear(work, 0, all);
-        return used / layout::TERM_ROW;
+        return;
     }
-    settle_tail(space, used, work, value, number)
+    let rows = settle_term(&mut kept[at..], used, work, value, number);
+    keep::renew_rows(kept, m, rows);
 }
 
 // An accepted reply's record, and a work buffer of zeros.
@@ -148,15 +154,6 @@ pub fn settle(kept: &mut [u8], work: &mut [u8], answer: &[u8], m: Limits)
     let calls = sound::open_list(kept, m);
     let left = calls.without(number);
     let next = sound::head::next_number(kept);
-    let at = layout::rows_at(m);
-    let used = layout::TERM_ROW * sound::head::row_count(kept) as usize;
-    let rows = settle_term(
-        &mut kept[at..],
-        used,
-        work,
-        &answer[layout::REPLY_HEAD..],
-        number,
-    );
-    keep::renew_rows(kept, m, rows);
+    replace_term(kept, work, answer, m);
     keep::renew_calls(kept, m, left, next);
 }
