@@ -1,16 +1,16 @@
 -- Rows by their kind: their fields, what a row without children asks, and the rules of an if and a cons. Assumes nothing.
-use Prim.Native.Nat.{ℕ, _≤_, _<_}
+use Prim.Native.Nat.{ℕ, _<_}
 use mathlib.Core.Path.{_≡_, refl, _∙_}
 use mathlib.Core.Bool.{Bool, true, false, cond}
 use mathlib.Core.List.{List, [], _∷_}
 use mathlib.Core.Option.{none}
 use native.Mathlib.Omega.{arith}
-use lib.Dec.{eqb, leb}
+use lib.Dec.{eqb}
 use lib.ListN.{getD}
-use borrow.Author.Tests.{eq-eqb, lt-ltb, le-leb, lt-leb}
+use borrow.Author.Tests.{eq-eqb, lt-ltb}
 use Rattle.meaning.specs.Bytes.{_∧ᵇ_, within}
 use Rattle.meaning.specs.Types.{formNo, result, empty}
-use Rattle.meaning.specs.Terms.{str, file, truth, ite, cons, headFrom, words-from, none-used, kindFields, withinOne, fits, lastKind, rowFault}
+use Rattle.meaning.specs.Terms.{str, file, truth, ite, cons, headFrom, none-used, kindFields, fits, lastKind, rowFault}
 use Rattle.meaning.specs.Typing.{⟨⟩, _▹_, baseNo, litBase, ruleOk}
 use Rattle.rules.specs.Forms.{says, forms, three, FixedKind}
 use Rattle.rules.proofs.ByRule.{rule-lit, rule-foreign, rule-if, rule-nil, rule-cons, list-says}
@@ -23,32 +23,6 @@ never p q = let z : _≡_ {A = ℕ} 0 1 = cc in omega arith
 pub row-fits : (k n t w count : ℕ) → within 1 19 k ≡ true → fits (getD kindFields k none-used) (k ∷ n ∷ t ∷ w ∷ []) ≡ true → t < count → rowFault 1 count (k ∷ n ∷ t ∷ w ∷ []) ≡ none
 unfolding rowFault lastKind
 row-fits k n t w count known fit h = rw (known, fit, lt-ltb t count h)
-
--- Fields -------------------------------------------------------------------------------------------------------------
-
-module _ (k n t w low high least most : ℕ) where
-  abbrev Fit : Bool → Type 0
-  Fit b = b ≡ fits record { nLow = low; nHigh = high; words = words-from least most } (k ∷ n ∷ t ∷ w ∷ [])
-
-  pub few-n : n < low → Fit false
-  unfolding fits within _∧ᵇ_
-  few-n a = rw (lt-leb low n a)
-
-  pub many-n : low ≤ n → high < n → Fit false
-  unfolding fits within _∧ᵇ_
-  many-n a b = rw (le-leb low n a, lt-leb n high b)
-
-  pub few-word : low ≤ n → n ≤ high → w < least → Fit false
-  unfolding fits within withinOne _∧ᵇ_
-  few-word a b c = rw (le-leb low n a, le-leb n high b, lt-leb least w c)
-
-  pub last-word : low ≤ n → n ≤ high → least ≤ w → Fit (leb w most)
-  unfolding fits within withinOne _∧ᵇ_
-  last-word a b c = rw (le-leb low n a, le-leb n high b, le-leb least w c) (same (leb w most))
-    where
-      same : (b : Bool) → b ≡ cond b true false
-      same true = refl
-      same false = refl
 
 -- Kinds alike --------------------------------------------------------------------------------------------------------
 

@@ -1,6 +1,5 @@
 // A quick check of a table of rows: if it says yes, the rows are one whole tree and no row fails typing. Where it says no, nothing is known.
 mod dues;
-mod fields;
 mod names;
 mod rows;
 mod scopes;
@@ -27,19 +26,21 @@ pub struct Place {
     pub future: bool,
 }
 
-// What a check tells: that the rows are good, and whether there is a future among them.
+// What a check tells: that the rows are good, and whether there is a future among them; where they are not seen to be good, the row that it ended at.
 pub struct Seen {
     pub good: bool,
     pub future: bool,
+    pub row: usize,
 }
 
 // Nothing is known.
-fn unsure() -> Seen
+fn unsure(row: usize) -> Seen
     ensures { λ r. ⌜ r .good ≡ false ⌝ }
 {
     Seen {
         good: false,
         future: false,
+        row: row,
     }
 }
 
@@ -120,25 +121,27 @@ fn walk(types: &[u8], rows: &[u8], stack: &mut [u32], bound: &mut [u64], heads: 
         future: false,
     };
     loop {
+        let i = p.i;
         if p.s < SPARE {
-            return unsure();
+            return unsure(i);
         }
-        if all <= p.i {
-            return unsure();
+        if all <= i {
+            return unsure(i);
         }
         p = rows::see(types, rows, stack, bound, heads, p);
         if !p.ok {
-            return unsure();
+            return unsure(i);
         }
         if !p.down {
             p = rise(rows, stack, bound, heads, p);
             if !p.ok {
-                return unsure();
+                return unsure(i);
             }
             if !p.down {
                 return Seen {
                     good: p.i == all,
                     future: p.future,
+                    row: i,
                 };
             }
         }
@@ -162,7 +165,7 @@ pub fn all_good(types: &[u8], rows: &[u8], edition: u16) -> Seen
     ensures { λ r. ⌜ Shows edition (now (types .entry)) (now (rows .entry)) r ⌝ }
 {
     if edition != VERSION {
-        return unsure();
+        return unsure(0);
     }
     if layout::term_rows(rows) <= FEW {
         return few_good(types, rows);

@@ -1,10 +1,10 @@
 // One row of a quick check: its fields, its own rule over the type that its first child states, and what it leaves due.
 use crate::Place;
 use crate::dues;
-use crate::fields;
 use crate::names;
 use rules::forms;
 use rules::kinds;
+use terms::fields;
 use typing::stated;
 ghost use mathlib.Core.Path.{_≡_};
 ghost use mathlib.Core.Bool.{true, false};

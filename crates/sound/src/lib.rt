@@ -148,15 +148,20 @@ fn shape_sound(kept: &[u8], m: Limits) -> bool
     }
 }
 
-// "and 9 test"
-fn term_sound(kept: &[u8], m: Limits) -> bool
+// "and 9 test". A row that may fail by itself is asked first.
+fn term_sound(kept: &[u8], m: Limits, row: usize) -> bool
     requires { ⌜ (Ready m (now kept)) × (shapeSound (board m) (now kept) ≡ true) ⌝ }
     ensures { λ b. ⌜ b ≡ termSound (board m) (now (kept .entry)) ⌝ }
 {
     let types_end = layout::RECORD_HEAD + layout::TYPE_ROW * head::type_count(kept) as usize;
     let at = layout::rows_at(m);
     let end = at + layout::TERM_ROW * head::row_count(kept) as usize;
-    let bad = typing::first_bad(&kept[layout::RECORD_HEAD..types_end], &kept[at..end]);
+    let types = &kept[layout::RECORD_HEAD..types_end];
+    let rows = &kept[at..end];
+    if typing::leaf_fails(types, rows, row) {
+        return false;
+    }
+    let bad = typing::first_bad(types, rows);
     match bad {
         Found::At(_) => false,
         Found::Nothing => true,
@@ -245,14 +250,14 @@ fn others_sound(kept: &[u8], m: Limits, future: bool) -> bool
 }
 
 // The tests behind that of the types, each of the rows' by a pass of its own.
-fn rest_sound(kept: &[u8], m: Limits) -> bool
+fn rest_sound(kept: &[u8], m: Limits, row: usize) -> bool
     requires { ⌜ Ready m (now kept) ⌝ }
     ensures { λ b. ⌜ b ≡ restSound (board m) (now (kept .entry)) ⌝ }
 {
     if !shape_sound(kept, m) {
         return false;
     }
-    if !term_sound(kept, m) {
+    if !term_sound(kept, m, row) {
         return false;
     }
     others_sound(kept, m, true)
@@ -276,5 +281,5 @@ pub fn is_sound(kept: &[u8], m: Limits) -> bool
     if seen.good {
         return others_sound(kept, m, seen.future);
     }
-    rest_sound(kept, m)
+    rest_sound(kept, m, seen.row)
 }

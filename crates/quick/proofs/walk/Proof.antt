@@ -58,11 +58,11 @@ walk-spec =
     shows-nothing _ _ _ _ (unsure2 .ensures))
     -- see-requires
     (λ c κs.
-    let term-rows = c .before .before .before .before .before .before .before .before .term-rows in
+    let term-rows = c .before .before .before .before .before .before .before .term-rows in
     let if2 = c .before .before .before .if2 in
-    let pre = c .before .before .before .before .before .before .before .before .before .before .before .before .before .before .pre in
-    let if1 = c .before .before .before .before .before .if1 in
-    let loop = c .before .before .before .before .before .before .before .loop in
+    let pre = c .before .before .before .before .before .before .before .before .before .before .before .before .before .pre in
+    let if1 = c .before .before .before .before .if1 in
+    let loop = c .before .before .before .before .before .before .loop in
     ((omega (arith, term-rows .ensures, if2 .left)), pre .3, record { spare = omega (arith, if1 .left); within = loop .inv .0 .within }, loop .inv .0 .chained))
     (λ c κs. search needs)
     (λ c. omega arith)
@@ -76,23 +76,23 @@ walk-spec =
     (λ c κs.
     let see = c .before .before .before .before .before .before .before .before .before .before .before .before .before .see in
     let if3 = c .before .before .before .before .before .if3 in
-    let pre = c .before .before .before .before .before .before .before .before .before .before .before .before .before .before .before .before .before .before .before .before .before .before .before .before .before .before .before .before .pre in
-    let loop = c .before .before .before .before .before .before .before .before .before .before .before .before .before .before .before .before .before .before .before .before .before .loop in
+    let pre = c .before .before .before .before .before .before .before .before .before .before .before .before .before .before .before .before .before .before .before .before .before .before .before .before .before .before .before .pre in
+    let loop = c .before .before .before .before .before .before .before .before .before .before .before .before .before .before .before .before .before .before .before .before .loop in
     let if4 = c .before .before .before .if4 in
     let see-row = see .ensures (not-false _ (if3 .left)) in
     (see-row .arrays, pre .3, omega (arith, see-row .same-dues, loop .inv .1, pre .0), not-true _ (if4 .taken)))
     (λ c κs. search needs)
     -- same-length-10
     (λ c.
-    let loop = c .before .before .before .before .before .before .before .before .before .before .before .before .before .before .before .before .before .before .before .before .before .before .before .before .before .before .before .before .before .loop in
+    let loop = c .before .before .before .before .before .before .before .before .before .before .before .before .before .before .before .before .before .before .before .before .before .before .before .before .before .before .before .before .loop in
     omega (arith, loop .inv .1, loop .inv .2, loop .inv .3))
     -- same-length-11
     (λ c.
-    let loop = c .before .before .before .before .before .before .before .before .before .before .before .before .before .before .before .before .before .before .before .before .before .before .before .before .before .before .before .before .before .loop in
+    let loop = c .before .before .before .before .before .before .before .before .before .before .before .before .before .before .before .before .before .before .before .before .before .before .before .before .before .before .before .before .loop in
     omega (arith, loop .inv .1, loop .inv .2, loop .inv .3))
     -- same-length-12
     (λ c.
-    let loop = c .before .before .before .before .before .before .before .before .before .before .before .before .before .before .before .before .before .before .before .before .before .before .before .before .before .before .before .before .before .loop in
+    let loop = c .before .before .before .before .before .before .before .before .before .before .before .before .before .before .before .before .before .before .before .before .before .before .before .before .before .before .before .before .loop in
     omega (arith, loop .inv .1, loop .inv .2, loop .inv .3))
     -- returns-4
     (λ c.
@@ -100,15 +100,15 @@ walk-spec =
     shows-nothing _ _ _ _ (unsure4 .ensures))
     -- same-length-13
     (λ c.
-    let loop = c .before .before .before .before .before .before .before .before .before .before .before .before .before .before .before .before .before .before .before .before .before .before .before .before .before .before .before .before .before .before .before .loop in
+    let loop = c .before .before .before .before .before .before .before .before .before .before .before .before .before .before .before .before .before .before .before .before .before .before .before .before .before .before .before .before .before .before .loop in
     omega (arith, loop .inv .1, loop .inv .2, loop .inv .3))
     -- same-length-14
     (λ c.
-    let loop = c .before .before .before .before .before .before .before .before .before .before .before .before .before .before .before .before .before .before .before .before .before .before .before .before .before .before .before .before .before .before .before .loop in
+    let loop = c .before .before .before .before .before .before .before .before .before .before .before .before .before .before .before .before .before .before .before .before .before .before .before .before .before .before .before .before .before .before .loop in
     omega (arith, loop .inv .1, loop .inv .2, loop .inv .3))
     -- same-length-15
     (λ c.
-    let loop = c .before .before .before .before .before .before .before .before .before .before .before .before .before .before .before .before .before .before .before .before .before .before .before .before .before .before .before .before .before .before .before .loop in
+    let loop = c .before .before .before .before .before .before .before .before .before .before .before .before .before .before .before .before .before .before .before .before .before .before .before .before .before .before .before .before .before .before .loop in
     omega (arith, loop .inv .1, loop .inv .2, loop .inv .3))
     -- returns-5
     (λ c.
@@ -117,10 +117,10 @@ walk-spec =
     let rise = c .before .before .before .before .before .before .before .before .before .rise in
     let if5 = c .before .before .before .if5 in
     let if6 = c .before .if6 in
-    let args = c .before .before .before .before .before .before .before .before .before .before .before .before .before .before .before .before .before .before .before .before .before .before .before .before .before .before .before .before .before .before .before .before .before .before .before .before .before .before .args in
-    let loop = c .before .before .before .before .before .before .before .before .before .before .before .before .before .before .before .before .before .before .before .before .before .before .before .before .before .before .before .before .before .before .before .loop in
+    let args = c .before .before .before .before .before .before .before .before .before .before .before .before .before .before .before .before .before .before .before .before .before .before .before .before .before .before .before .before .before .before .before .before .before .before .before .before .before .args in
+    let loop = c .before .before .before .before .before .before .before .before .before .before .before .before .before .before .before .before .before .before .before .before .before .before .before .before .before .before .before .before .before .before .loop in
     let if4 = c .before .before .before .before .before .before .before .before .before .before .before .before .before .if4 in
-    let term-rows = c .before .before .before .before .before .before .before .before .before .before .before .before .before .before .before .before .before .before .before .before .before .before .before .before .before .before .before .before .before .before .before .before .term-rows in
+    let term-rows = c .before .before .before .before .before .before .before .before .before .before .before .before .before .before .before .before .before .before .before .before .before .before .before .before .before .before .before .before .before .before .before .term-rows in
     let if2 = c .before .before .before .before .before .before .before .before .before .before .before .before .before .before .before .before .before .before .before .before .before .before .before .before .before .before .before .if2 in
     let see-row = see .ensures (not-false _ (if3 .left)) in
     let up = rise .ensures (not-false _ (if5 .left)) in
@@ -134,8 +134,8 @@ walk-spec =
     let if3 = c .before .before .before .before .before .before .before .before .before .before .before .before .before .before .if3 in
     let rise = c .before .before .before .before .before .before .before .before .rise in
     let if5 = c .before .before .if5 in
-    let args = c .before .before .before .before .before .before .before .before .before .before .before .before .before .before .before .before .before .before .before .before .before .before .before .before .before .before .before .before .before .before .before .before .before .before .before .before .before .args in
-    let term-rows = c .before .before .before .before .before .before .before .before .before .before .before .before .before .before .before .before .before .before .before .before .before .before .before .before .before .before .before .before .before .before .before .term-rows in
+    let args = c .before .before .before .before .before .before .before .before .before .before .before .before .before .before .before .before .before .before .before .before .before .before .before .before .before .before .before .before .before .before .before .before .before .before .before .before .args in
+    let term-rows = c .before .before .before .before .before .before .before .before .before .before .before .before .before .before .before .before .before .before .before .before .before .before .before .before .before .before .before .before .before .before .term-rows in
     let if2 = c .before .before .before .before .before .before .before .before .before .before .before .before .before .before .before .before .before .before .before .before .before .before .before .before .before .before .if2 in
     let see-row = see .ensures (not-false _ (if3 .left)) in
     let up = rise .ensures (not-false _ (if5 .left)) .1 (forms (args .types .now)) in
@@ -146,11 +146,11 @@ walk-spec =
     let if3 = c .before .before .before .before .before .before .before .before .before .before .before .before .before .before .if3 in
     let rise = c .before .before .before .before .before .before .before .before .rise in
     let if5 = c .before .before .if5 in
-    let args = c .before .before .before .before .before .before .before .before .before .before .before .before .before .before .before .before .before .before .before .before .before .before .before .before .before .before .before .before .before .before .before .before .before .before .before .before .before .args in
-    let loop = c .before .before .before .before .before .before .before .before .before .before .before .before .before .before .before .before .before .before .before .before .before .before .before .before .before .before .before .before .before .before .loop in
+    let args = c .before .before .before .before .before .before .before .before .before .before .before .before .before .before .before .before .before .before .before .before .before .before .before .before .before .before .before .before .before .before .before .before .before .before .before .before .args in
+    let loop = c .before .before .before .before .before .before .before .before .before .before .before .before .before .before .before .before .before .before .before .before .before .before .before .before .before .before .before .before .before .loop in
     let if4 = c .before .before .before .before .before .before .before .before .before .before .before .before .if4 in
     let if6 = c .if6 in
-    let term-rows = c .before .before .before .before .before .before .before .before .before .before .before .before .before .before .before .before .before .before .before .before .before .before .before .before .before .before .before .before .before .before .before .term-rows in
+    let term-rows = c .before .before .before .before .before .before .before .before .before .before .before .before .before .before .before .before .before .before .before .before .before .before .before .before .before .before .before .before .before .before .term-rows in
     let if2 = c .before .before .before .before .before .before .before .before .before .before .before .before .before .before .before .before .before .before .before .before .before .before .before .before .before .before .if2 in
     let see-row = see .ensures (not-false _ (if3 .left)) in
     let up = rise .ensures (not-false _ (if5 .left)) .1 (forms (args .types .now)) in (
@@ -165,7 +165,7 @@ walk-spec =
     (λ c.
     let see = c .before .before .before .before .before .before .before .before .before .before .see in
     let if3 = c .before .before .if3 in
-    let term-rows = c .before .before .before .before .before .before .before .before .before .before .before .before .before .before .before .before .before .before .before .term-rows in
+    let term-rows = c .before .before .before .before .before .before .before .before .before .before .before .before .before .before .before .before .before .before .term-rows in
     let if2 = c .before .before .before .before .before .before .before .before .before .before .before .before .before .before .if2 in
     let see-row = see .ensures (not-false _ (if3 .left)) in
     omega (arith, see-row .next, term-rows .ensures, if2 .left))
@@ -173,10 +173,10 @@ walk-spec =
     (λ c.
     let see = c .before .before .before .before .before .before .before .before .before .before .see in
     let if3 = c .before .before .if3 in
-    let loop = c .before .before .before .before .before .before .before .before .before .before .before .before .before .before .before .before .before .before .loop in
-    let args = c .before .before .before .before .before .before .before .before .before .before .before .before .before .before .before .before .before .before .before .before .before .before .before .before .before .args in
+    let loop = c .before .before .before .before .before .before .before .before .before .before .before .before .before .before .before .before .before .loop in
+    let args = c .before .before .before .before .before .before .before .before .before .before .before .before .before .before .before .before .before .before .before .before .before .before .before .before .args in
     let if4 = c .if4 in
-    let term-rows = c .before .before .before .before .before .before .before .before .before .before .before .before .before .before .before .before .before .before .before .term-rows in
+    let term-rows = c .before .before .before .before .before .before .before .before .before .before .before .before .before .before .before .before .before .before .term-rows in
     let if2 = c .before .before .before .before .before .before .before .before .before .before .before .before .before .before .if2 in
     let see-row = see .ensures (not-false _ (if3 .left)) in (
       see-row .arrays,
