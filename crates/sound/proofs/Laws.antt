@@ -27,6 +27,11 @@ pub passes : (a b : Bool) → a ≡ true → (a ∧ᵇ b) ≡ b
 unfolding _∧ᵇ_
 passes a b e = rw e refl
 
+pub some-there : (o : Option ℕ) → (o ≡ none → ⊥) → false ≡ nothing o
+unfolding nothing
+some-there none n = absurd (n refl)
+some-there (some i) n = refl
+
 -- A test of every element ----------------------------------------------------------------------------------------
 
 module _ {A : Type 0} (p : A → Bool) where
