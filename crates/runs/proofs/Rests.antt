@@ -1,13 +1,13 @@
 -- Everything is passed and the rule at the root stays: the whole stays, and whether it is a value. Assumes nothing.
 use Prim.Native.Nat.{ℕ, _+_, _*_, _-_, _<_, _≤_}
-use mathlib.Core.Path.{_≡_, refl, ap, sym, _∙_, subst}
-use mathlib.Core.Bool.{Bool, true, false, false≢true}
+use mathlib.Core.Path.{_≡_, ap, sym, _∙_, subst}
+use mathlib.Core.Bool.{Bool, true, false}
 use mathlib.Core.List.{List, [], _∷_}
 use native.Mathlib.Omega.{arith}
 use lib.ListN.{length, getD}
 use Rattle.meaning.specs.Types.{Form, member}
-use Rattle.meaning.specs.Terms.{Head, lit, var, lambda, foreign, apply, future, ite, fix, nil, cons, isnil, zip, tuple, project, lproject, bind, arity, code, Tree, Forest, headOf, top}
-use Rattle.meaning.specs.Steps.{stay, value, valueKinds, madeOfValues, contract, step}
+use Rattle.meaning.specs.Terms.{Tree, headOf, top}
+use Rattle.meaning.specs.Steps.{stay, value, valueKinds, madeOfValues, step}
 use Rattle.meaning.proofs.Bytes.Records.{size-some}
 use Rattle.search.specs.Frames.{Frame, below, around}
 use Rattle.search.specs.Kept.{kindAt, rowIn, valueEnd}
@@ -15,50 +15,12 @@ use Rattle.search.specs.Search.{Room, Searching}
 use Rattle.search.specs.declared.Stand.{Stand}
 use Rattle.search.proofs.Ends.{root-stays, end-stays}
 use Rattle.search.proofs.Fits.{here-kind, end-kind, value-end}
+use Rattle.search.proofs.Values.{value-stays, built-stays}
 use Rattle.runs.specs.Sites.{Site, at-row, at-end, own, Halted}
 use Rattle.runs.proofs.Tries.{here-fits}
 use Rattle.runs.proofs.EndTries.{end-row, end-below}
 
 -- A ROW THAT IS A VALUE, or that is made of values, has no rule that reduces
-module _ (form : ℕ → Form) (k u : ℕ) where
-  value-stays : (h : Head) (f : Forest (arity h)) → member (code h) valueKinds ≡ true → contract form k h u f ≡ stay
-  unfolding contract code member
-  value-stays (lit l) f e = refl
-  value-stays (var x) f e = refl
-  value-stays lambda f e = refl
-  value-stays (foreign w) f e = refl
-  value-stays (apply n) f e = absurd (false≢true e)
-  value-stays (future j) f e = refl
-  value-stays ite f e = absurd (false≢true e)
-  value-stays fix f e = absurd (false≢true e)
-  value-stays nil f e = refl
-  value-stays cons f e = refl
-  value-stays isnil f e = absurd (false≢true e)
-  value-stays (zip m) f e = refl
-  value-stays (tuple n) f e = refl
-  value-stays (project i) f e = absurd (false≢true e)
-  value-stays (lproject i) f e = absurd (false≢true e)
-  value-stays (bind x) f e = absurd (false≢true e)
-
-  built-stays : (h : Head) (f : Forest (arity h)) → member (code h) madeOfValues ≡ true → contract form k h u f ≡ stay
-  unfolding contract code member
-  built-stays (lit l) f e = refl
-  built-stays (var x) f e = refl
-  built-stays lambda f e = refl
-  built-stays (foreign w) f e = refl
-  built-stays (apply n) f e = absurd (false≢true e)
-  built-stays (future j) f e = refl
-  built-stays ite f e = absurd (false≢true e)
-  built-stays fix f e = absurd (false≢true e)
-  built-stays nil f e = refl
-  built-stays cons f e = refl
-  built-stays isnil f e = absurd (false≢true e)
-  built-stays (zip m) f e = refl
-  built-stays (tuple n) f e = refl
-  built-stays (project i) f e = absurd (false≢true e)
-  built-stays (lproject i) f e = absurd (false≢true e)
-  built-stays (bind x) f e = absurd (false≢true e)
-
 module _ (form : ℕ → Form) (k : ℕ) (left right frames : List ℕ) (s : Stand) where
   kind-rests : (Fs : List Frame) (ts : List Tree) (old : Tree) (outer : List Frame) (rest : List Tree) → Site true Fs ts old outer rest → Searching form k left right frames s Fs ts → member (kindAt right (s .r)) valueKinds ≡ true → own form k old ≡ stay
   unfolding own headOf

@@ -15,7 +15,7 @@ use Rattle.meaning.specs.Terms.{Head, arity, code, Tree, Forest, node, headOf, 
 use Rattle.meaning.specs.Typing.{firstIs}
 use Rattle.meaning.specs.Steps.{value, valueKinds, madeOfValues}
 use Rattle.search.specs.Frames.{zips, spelled, Frame, below, rowOfFrame, passedRows, Open, Passed}
-use Rattle.search.specs.Kept.{table, toCome, rowCount, rowIn, flagIn, kindAt, firstKind, wants, fitsHere, valueEnd, fitsEnd, Held, Kept, Passes, Leaves}
+use Rattle.search.specs.Kept.{table, toCome, rowCount, rowIn, flagIn, kindAt, firstKind, wants, wantsHere, fitsHere, valueEnd, fitsEnd, Held, Kept, Passes, Leaves}
 use Rattle.search.specs.Search.{Searching, Reached, Room, Resting, Ending}
 use Rattle.search.specs.declared.Stand.{Stand}
 use Rattle.search.proofs.Over.{spelled-some}
@@ -64,6 +64,9 @@ module _ (left frames : List ℕ) (l d i : ℕ) (F : Frame) (Fs : List Frame) (d
   unfolding passedRows
   frame-long = omega (arith, rows-long left frames l d (F ∷ Fs) k, frame-at, length-append (passedRows Fs) (rowOfFrame F ∷ spelled (F .before)))
 
+  pub frame-inside : rowIn (getD frames i 0) < l
+  frame-inside = omega (arith, frame-long)
+
   pub frame-kind : kindAt left (rowIn (getD frames i 0)) ≡ code (F .head)
   unfolding passedRows
   frame-kind = kind-at left (rowIn (getD frames i 0)) (rowOfFrame F) (row-behind left 0 l (8 * rowIn (getD frames i 0)) (passedRows Fs) (spelled (F .before)) (rowOfFrame F) (omega (arith, frame-at)) (k .rows))
@@ -94,20 +97,24 @@ module _ (left frames : List ℕ) (l d i : ℕ) (F : Frame) (Fs : List Frame) (d
 
 -- A TREE WHOSE OWN RULE STAYS is as the frame wants it if the bytes say so
 module _ (form : ℕ → Form) (k : ℕ) (left right frames : List ℕ) (s : Stand) where
-  some-frame : (F : Frame) (Fs : List Frame) (d : ℕ) → Held frames d (F ∷ Fs) → d ≡ suc (d - 1)
+  pub some-frame : (F : Frame) (Fs : List Frame) (d : ℕ) → Held frames d (F ∷ Fs) → d ≡ suc (d - 1)
   unfolding Held
   some-frame F Fs zero h = absurd h
   some-frame F Fs (suc d) h = omega arith
 
+  -- its frame wants a value if the bytes say so
+  pub wants-here : (F : Frame) (Fs : List Frame) (t : Tree) (ts : List Tree) → Searching form k left right frames s (F ∷ Fs) (t ∷ ts) → 0 < arity (F .head)
+      → not (zips (F .head) (below F (t ∷ ts))) ≡ wantsHere left right frames s
+  unfolding wantsHere wants zips
+  wants-here F Fs t ts x n =
+      let ds = some-frame F Fs (s .d) (x .kept .held) in
+      let fk = first-kind left frames (s .l) (s .d) (s .d - 1) F Fs ds (x .kept) t ts (kindAt right (s .r)) (here-kind right (s .r) t ts (x .coming)) n in
+      cc (frame-kind left frames (s .l) (s .d) (s .d - 1) F Fs ds (x .kept), fk)
+
   pub fits-here : (F : Frame) (Fs : List Frame) (h : Head) (u : ℕ) (f : Forest (arity h)) (ts : List Tree) → Resting form k left right frames s F Fs h u f ts
       → (not (zips (F .head) (below F (node h u f ∷ ts))) ∧ᵇ member (code h) valueKinds) ≡ fitsHere left right frames s
-  unfolding fitsHere wants zips headOf
-  fits-here F Fs h u f ts x =
-      let kept = x .search .kept in
-      let ds = some-frame F Fs (s .d) (kept .held) in
-      let hk = here-kind right (s .r) (node h u f) ts (x .search .coming) in
-      let fk = first-kind left frames (s .l) (s .d) (s .d - 1) F Fs ds kept (node h u f) ts (kindAt right (s .r)) hk (omega (arith, x .looked .inside)) in
-      cc (frame-kind left frames (s .l) (s .d) (s .d - 1) F Fs ds kept, fk, sym hk)
+  unfolding fitsHere headOf
+  fits-here F Fs h u f ts x = cc (wants-here F Fs (node h u f) ts (x .search) (omega (arith, x .looked .inside)), here-kind right (s .r) (node h u f) ts (x .search .coming))
 
   pub passed-by : (left′ frames′ : List ℕ) (s′ : Stand) (F : Frame) (Fs : List Frame) (h : Head) (u : ℕ) (f : Forest (arity h)) (ts : List Tree) → Room left right frames s
       → Resting form k left right frames s F Fs h u f ts → Passes left left′ right frames frames′ s (fitsHere left right frames s) s′

@@ -9,5 +9,6 @@ pub mod Turns
 pub mod Changes
 pub mod Ends
 pub mod Fits
+pub mod Values
 pub mod Moves
 pub mod Resumed

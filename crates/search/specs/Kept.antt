@@ -99,11 +99,13 @@ firstKind left l at k = cond (ltb (at + 1) l) (kindAt left (at + 1)) k
 unfoldable pub wants : ℕ → ℕ → Bool
 wants k c = not (eqb k 8 ∧ᵇ eqb c 15)
 
+-- the innermost frame, of the tree at the search
+unfoldable pub wantsHere : List ℕ → List ℕ → List ℕ → Stand → Bool
+wantsHere left right frames s = let at = rowIn (getD frames (s .d - 1) 0) in wants (kindAt left at) (firstKind left (s .l) at (kindAt right (s .r)))
+
 -- a row whose own rule stays, in the innermost frame
 unfoldable pub fitsHere : List ℕ → List ℕ → List ℕ → Stand → Bool
-fitsHere left right frames s =
-    let at = rowIn (getD frames (s .d - 1) 0) in
-    wants (kindAt left at) (firstKind left (s .l) at (kindAt right (s .r))) ∧ᵇ member (kindAt right (s .r)) valueKinds
+fitsHere left right frames s = wantsHere left right frames s ∧ᵇ member (kindAt right (s .r)) valueKinds
 
 -- the innermost frame, all of whose trees are passed: whether its tree is a value
 unfoldable pub valueEnd : List ℕ → List ℕ → ℕ → Bool

@@ -7,14 +7,16 @@ use lib.Dec.{eqb, ltb}
 use lib.ListN.{length, getD, drop}
 use Rattle.meaning.specs.Bytes.{read, termRow}
 use Rattle.meaning.specs.Types.{Form}
-use Rattle.meaning.specs.Terms.{arity, Head, Tree, Forest, node, raw, rowOf}
-use Rattle.meaning.specs.Steps.{stay, contract, looks}
+use Rattle.meaning.specs.Terms.{arity, Head, Tree, Forest, node, raw, rowOf, size}
+use Rattle.meaning.specs.Steps.{value, stay, contract, looks}
 use Rattle.search.specs.Frames.{spelled, waits, Frame, below, around, Looked, Open, Passed}
 use Rattle.search.specs.Kinds.{looksBy}
-use Rattle.search.specs.Kept.{toCome, rowCount, Kept}
+use Rattle.search.specs.Kept.{toCome, rowCount, treeHere, Kept}
 use Rattle.search.specs.declared.Stand.{Stand}
 use Rattle.search.specs.declared.Sight.{Sight}
 use Rattle.search.specs.declared.Sight.the-variants.{Done, Skip, Enter, Here}
+use Rattle.search.specs.declared.Span.{Span}
+use Rattle.search.specs.declared.Span.the-variants.{Whole, Part}
 
 -- how many trees are to come
 unfoldable pub owing : List Frame → ℕ
@@ -105,6 +107,16 @@ pub record Ending (form : ℕ → Form) (k : ℕ) (left right frames : List ℕ)
   pub search : Searching form k left right frames s (F ∷ G ∷ Gs) ts
   pub full : length (F .before) ≡ arity (F .head)
   pub stays : contract form k (F .head) (F .type) (below F ts) ≡ stay
+
+-- how far the rows of a tree are parts of values
+unfoldable pub Spans : Span → Tree → Type 0
+Spans (Whole n) t = (size t ≡ n) × (value t ≡ true)
+Spans (Part n) t = n < size t
+
+-- the tree at the search is one of a frame's and a value, of so many rows
+unfoldable pub SpansHere : Span → List ℕ → Stand → Type 0
+SpansHere (Whole n) right s = (0 < s .d) × (size (treeHere right (s .r)) ≡ n) × (value (treeHere right (s .r)) ≡ true)
+SpansHere (Part n) right s = Unit {0}
 
 -- Behind a step ---------------------------------------------------------------------------------------------------
 

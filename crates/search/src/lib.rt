@@ -1,15 +1,16 @@
 // The search for the next step, in two lent buffers: the rows passed, the rows to come. It goes on where it stands: what was passed cannot step.
 ghost use mathlib.Core.Path.{_≡_};
-ghost use Prim.Native.Nat.{_+_, _*_, _-_, _≤_, _<_};
-ghost use lib.Dec.{eqb};
+ghost use Prim.Native.Nat.{_+_, _*_, _-_, _/_, _≤_, _<_};
+ghost use lib.Dec.{eqb, ltb};
 ghost use lib.ListN.{length, getD, drop};
-ghost use Rattle.meaning.specs.Bytes.{read, termRow};
+ghost use Rattle.layout.specs.Rows.{termRows};
+ghost use Rattle.meaning.specs.Bytes.{_∧ᵇ_, read, termRow};
 ghost use Rattle.meaning.specs.Types.{member};
-ghost use Rattle.meaning.specs.Terms.{size, arity, rowOf};
+ghost use Rattle.meaning.specs.Terms.{size, arity, rowOf, treeAt};
 ghost use Rattle.meaning.specs.Steps.{_∨ᵇ_, valueKinds, madeOfValues};
-ghost use Rattle.search.specs.Kinds.{waitsBy, looksBy};
-ghost use Rattle.search.specs.Kept.{rowCount, kindAt, rowIn, owedIn, flagIn, enteredNumber, passedNumber, treeHere, firstKind, wants, fitsHere, valueEnd, fitsEnd, Enters, Passes, Leaves};
-ghost use Rattle.search.specs.Search.{nextKind, lookedBy, Room, Somewhere, Sees, Stops, Resumes};
+ghost use Rattle.search.specs.Kinds.{waitsBy, looksBy, partKinds, partsBelow};
+ghost use Rattle.search.specs.Kept.{rowCount, kindAt, rowIn, owedIn, flagIn, enteredNumber, passedNumber, copied, treeHere, firstKind, wants, wantsHere, fitsHere, valueEnd, fitsEnd, Enters, Passes, Leaves};
+ghost use Rattle.search.specs.Search.{nextKind, lookedBy, Room, Somewhere, Sees, Stops, Spans, SpansHere, Resumes};
 
 // What a search sees where it stands.
 pub enum Sight {
@@ -156,15 +157,15 @@ fn enter(left: &mut [u8], right: &[u8], frames: &mut [u32], s: Stand) -> Stand
     }
 }
 
-// The tree at the search, one of the innermost frame's, goes to the rows passed.
-fn pass(left: &mut [u8], right: &[u8], frames: &mut [u32], s: Stand, fine: bool) -> Stand
-    requires { ⌜ Room (now left) (now right) (now frames) s × (size (treeHere (now right) (s .r)) ≤ rowCount (now right) - s .r) × (0 < s .d) × (s .d ≤ s .l) × (0 < owedIn (getD (now frames) (s .d - 1) 0)) ⌝ }
-    ensures { λ e. ⌜ Passes (now (left .entry)) (now (left .exit)) (now (right .entry)) (now (frames .entry)) (now (frames .exit)) s fine e ⌝ }
+// n rows from row r on go to row l: one row at once.
+fn copy_rows(left: &mut [u8], l: usize, right: &[u8], r: usize, n: usize)
+    requires { ⌜ (l ≤ 4096) × (r ≤ 4096) × (n ≤ 4096) × (8 * l + 8 * n ≤ length (now left)) × (8 * r + 8 * n ≤ length (now right)) ⌝ }
+    ensures { λ _. ⌜ now (left .exit) ≡ copied (now (left .entry)) l (now (right .entry)) r n ⌝ }
 {
-    let l = s.l;
-    let r = s.r;
-    let d = s.d;
-    let n = terms::end_of(&right[layout::TERM_ROW * r..], 0);
+    if n == 1 {
+        layout::copy_row(left, layout::TERM_ROW * l, right, layout::TERM_ROW * r);
+        return;
+    }
     layout::copy_to(
         left,
         layout::TERM_ROW * l,
@@ -172,6 +173,24 @@ fn pass(left: &mut [u8], right: &[u8], frames: &mut [u32], s: Stand, fine: bool)
         layout::TERM_ROW * r,
         layout::TERM_ROW * n,
     );
+}
+
+// The tree at the search, one of the innermost frame's, goes to the rows passed: it has n rows.
+fn pass_rows(
+    left: &mut [u8],
+    right: &[u8],
+    frames: &mut [u32],
+    s: Stand,
+    fine: bool,
+    n: usize,
+) -> Stand
+    requires { ⌜ Room (now left) (now right) (now frames) s × (size (treeHere (now right) (s .r)) ≡ n) × (n ≤ rowCount (now right) - s .r) × (0 < s .d) × (s .d ≤ s .l) × (0 < owedIn (getD (now frames) (s .d - 1) 0)) ⌝ }
+    ensures { λ e. ⌜ Passes (now (left .entry)) (now (left .exit)) (now (right .entry)) (now (frames .entry)) (now (frames .exit)) s fine e ⌝ }
+{
+    let l = s.l;
+    let r = s.r;
+    let d = s.d;
+    copy_rows(left, l, right, r, n);
     let i = d - 1;
     frames[i] = passed_number(frames[i], fine);
     Stand {
@@ -180,6 +199,19 @@ fn pass(left: &mut [u8], right: &[u8], frames: &mut [u32], s: Stand, fine: bool)
         d: d,
         here: false,
     }
+}
+
+// The same, where its rows are still to be counted.
+fn pass(left: &mut [u8], right: &[u8], frames: &mut [u32], s: Stand, fine: bool) -> Stand
+    requires { ⌜ Room (now left) (now right) (now frames) s × (size (treeHere (now right) (s .r)) ≤ rowCount (now right) - s .r) × (0 < s .d) × (s .d ≤ s .l) × (0 < owedIn (getD (now frames) (s .d - 1) 0)) ⌝ }
+    ensures { λ e. ⌜ Passes (now (left .entry)) (now (left .exit)) (now (right .entry)) (now (frames .entry)) (now (frames .exit)) s fine e ⌝ }
+{
+    let r = s.r;
+    if terms::children(layout::row_at(right, r)) == 0 {
+        return pass_rows(left, right, frames, s, fine, 1);
+    }
+    let n = terms::end_of(&right[layout::TERM_ROW * r..], 0);
+    pass_rows(left, right, frames, s, fine, n)
 }
 
 // Whether the row at the search is looked into before its own rule is tried.
@@ -242,42 +274,6 @@ fn look_ahead(left: &[u8], right: &[u8], frames: &[u32], s: Stand) -> Sight
     Sight::Skip
 }
 
-// The search goes on until it stands at a row whose own rule is to be tried, or at the end of a frame: trees that are not looked at are
-// passed, rows that wait are entered.
-pub fn seek(left: &mut [u8], right: &[u8], frames: &mut [u32], start: Stand) -> Stand
-    requires { ⌜ Room (now left) (now right) (now frames) start × Somewhere (now left) (now right) (now frames) start ⌝ }
-    ensures { λ e. ⌜ Stops (now (left .entry)) (now (left .exit)) (now (right .entry)) (now (frames .entry)) (now (frames .exit)) start e ⌝ }
-{
-    let mut s = start;
-    loop {
-        let x = look_ahead(left, right, frames, s);
-        match x {
-            Sight::Done => {
-                return Stand {
-                    l: s.l,
-                    r: s.r,
-                    d: s.d,
-                    here: false,
-                };
-            }
-            Sight::Here => {
-                return Stand {
-                    l: s.l,
-                    r: s.r,
-                    d: s.d,
-                    here: true,
-                };
-            }
-            Sight::Skip => {
-                s = pass(left, right, frames, s, true);
-            }
-            Sight::Enter => {
-                s = enter(left, right, frames, s);
-            }
-        }
-    }
-}
-
 // Whether a row of kind k is a value, whatever is below it; and whether it is one if the trees below it are.
 pub fn plain(k: u8) -> bool
     ensures { λ b. ⌜ b ≡ member k valueKinds ⌝ }
@@ -336,18 +332,27 @@ fn first_kind(left: &[u8], l: usize, at: usize, k: u8) -> u8
     k
 }
 
-// Whether the tree at the search, whose own rule stays, is as the innermost frame wants it.
-fn fits_here(left: &[u8], right: &[u8], frames: &[u32], s: Stand) -> bool
+// Whether the innermost frame wants a value of the tree at the search.
+fn wants_here(left: &[u8], right: &[u8], frames: &[u32], s: Stand) -> bool
     requires { ⌜ (8 * s .l ≤ length (now left)) × (s .l ≤ 4096) × (s .r < rowCount (now right)) × (0 < s .d) × (s .d ≤ length (now frames)) × (rowIn (getD (now frames) (s .d - 1) 0) < s .l) ⌝ }
-    ensures { λ b. ⌜ b ≡ fitsHere (now (left .entry)) (now (right .entry)) (now (frames .entry)) s ⌝ }
+    ensures { λ b. ⌜ b ≡ wantsHere (now (left .entry)) (now (right .entry)) (now (frames .entry)) s ⌝ }
 {
     let r = s.r;
     let d = s.d;
     let at = row_in(frames[d - 1]);
     let k = right[layout::TERM_ROW * r];
     let c = first_kind(left, s.l, at, k);
-    if wants_values(left[layout::TERM_ROW * at], c) {
-        return plain(k);
+    wants_values(left[layout::TERM_ROW * at], c)
+}
+
+// Whether the tree at the search, whose own rule stays, is as the innermost frame wants it.
+fn fits_here(left: &[u8], right: &[u8], frames: &[u32], s: Stand) -> bool
+    requires { ⌜ (8 * s .l ≤ length (now left)) × (s .l ≤ 4096) × (s .r < rowCount (now right)) × (0 < s .d) × (s .d ≤ length (now frames)) × (rowIn (getD (now frames) (s .d - 1) 0) < s .l) ⌝ }
+    ensures { λ b. ⌜ b ≡ fitsHere (now (left .entry)) (now (right .entry)) (now (frames .entry)) s ⌝ }
+{
+    if wants_here(left, right, frames, s) {
+        let r = s.r;
+        return plain(right[layout::TERM_ROW * r]);
     }
     false
 }
@@ -411,6 +416,164 @@ pub fn leave(left: &[u8], frames: &mut [u32], s: Stand) -> Stand
         r: s.r,
         d: d - 1,
         here: false,
+    }
+}
+
+// How far the rows of a tree are parts of values: all of them, so many; or only so many.
+pub enum Span {
+    Whole(usize),
+    Part(usize),
+}
+
+// One bit a kind: the rows that are values with no tree below them, and those that are made of values.
+const PARTS: u32 = 0b0001_0011_0000_1001_1110;
+
+// Whether a row of kind k is part of a value by its kind alone.
+fn is_part(k: u8) -> bool
+    ensures { λ b. ⌜ b ≡ member k partKinds ⌝ }
+{
+    if 16 < k {
+        return false;
+    }
+    (PARTS >> k) % 2 == 1
+}
+
+// How many trees such a row has below it.
+fn parts_below(k: u8, n: u8) -> usize
+    ensures { λ c. ⌜ (c ≡ partsBelow k n) × (c ≤ 255) ⌝ }
+{
+    let mut c: usize = 0;
+    if k == 13 {
+        c = 2;
+    }
+    if k == 16 {
+        c = n as usize;
+    }
+    c
+}
+
+// How far the rows of the first tree are parts of values.
+fn value_rows(rows: &[u8]) -> Span
+    requires { ⌜ (length (now rows) ≤ 32768) × (size (treeAt (termRows (now rows)) 0) ≤ length (now rows) / 8) ⌝ }
+    ensures { λ x. ⌜ Spans x (treeAt (termRows (now (rows .entry))) 0) ⌝ }
+{
+    let mut owed: usize = 1;
+    let mut i: usize = 0;
+    while 0 < owed {
+        let row = layout::row_at(rows, i);
+        let k = row.kind;
+        if is_part(k) {
+            owed = owed - 1 + parts_below(k, row.n);
+            i += 1;
+        } else {
+            return Span::Part(i);
+        }
+    }
+    Span::Whole(i)
+}
+
+// Whether the tree at the search is a value that can be passed at once; else the row up to which that need not be asked again, at first `far`.
+fn value_here(right: &[u8], s: Stand, far: usize) -> Span
+    requires { ⌜ (s .r ≤ rowCount (now right)) × (rowCount (now right) ≤ 4096) × (s .d + (rowCount (now right) - s .r) ≤ 4096) × (size (treeHere (now right) (s .r)) ≤ rowCount (now right) - s .r) ⌝ }
+    ensures { λ x. ⌜ SpansHere x (now (right .entry)) s ⌝ }
+{
+    let r = s.r;
+    if s.d == 0 {
+        return Span::Part(far);
+    }
+    if r < far {
+        return Span::Part(far);
+    }
+    if made_of_values(right[layout::TERM_ROW * r]) {
+        let x = value_rows(&right[layout::TERM_ROW * r..]);
+        match x {
+            Span::Whole(n) => {
+                return Span::Whole(n);
+            }
+            Span::Part(n) => {
+                return Span::Part(r + n);
+            }
+        }
+    }
+    Span::Part(far)
+}
+
+// Whether the row at the search stands in a frame and is a value: its own rule stays.
+fn rests_here(right: &[u8], s: Stand) -> bool
+    requires { ⌜ (s .r < rowCount (now right)) × (rowCount (now right) ≤ 4096) ⌝ }
+    ensures { λ b. ⌜ b ≡ (ltb 0 (s .d) ∧ᵇ member (kindAt (now (right .entry)) (s .r)) valueKinds) ⌝ }
+{
+    let r = s.r;
+    if s.d == 0 {
+        return false;
+    }
+    plain(right[layout::TERM_ROW * r])
+}
+
+// Whether the innermost frame stands in another one and is made of values: its own rule stays.
+fn rests_at_end(left: &[u8], frames: &[u32], s: Stand) -> bool
+    requires { ⌜ (s .d ≤ 4096) × (s .d ≤ length (now frames)) × (8 * rowIn (getD (now frames) (s .d - 1) 0) + 8 ≤ length (now left)) ⌝ }
+    ensures { λ b. ⌜ b ≡ (ltb 1 (s .d) ∧ᵇ member (kindAt (now (left .entry)) (rowIn (getD (now (frames .entry)) (s .d - 1) 0))) madeOfValues) ⌝ }
+{
+    let d = s.d;
+    if d < 2 {
+        return false;
+    }
+    builds(left, frames, d - 1)
+}
+
+// The search goes on until it stands at a row whose own rule is to be tried, or at the end of a frame whose own is: trees that are not looked at
+// and values are passed, rows that wait are entered, frames that are made of values are left.
+pub fn seek(left: &mut [u8], right: &[u8], frames: &mut [u32], start: Stand) -> Stand
+    requires { ⌜ Room (now left) (now right) (now frames) start × Somewhere (now left) (now right) (now frames) start ⌝ }
+    ensures { λ e. ⌜ Stops (now (left .entry)) (now (left .exit)) (now (right .entry)) (now (frames .entry)) (now (frames .exit)) start e ⌝ }
+{
+    let mut s = start;
+    let mut far: usize = 0;
+    loop {
+        let x = look_ahead(left, right, frames, s);
+        match x {
+            Sight::Done => {
+                if rests_at_end(left, frames, s) {
+                    s = leave(left, frames, s);
+                } else {
+                    return Stand {
+                        l: s.l,
+                        r: s.r,
+                        d: s.d,
+                        here: false,
+                    };
+                }
+            }
+            Sight::Here => {
+                if rests_here(right, s) {
+                    s = pass_by(left, right, frames, s);
+                } else {
+                    return Stand {
+                        l: s.l,
+                        r: s.r,
+                        d: s.d,
+                        here: true,
+                    };
+                }
+            }
+            Sight::Skip => {
+                s = pass(left, right, frames, s, true);
+            }
+            Sight::Enter => {
+                let v = value_here(right, s, far);
+                match v {
+                    Span::Whole(n) => {
+                        let fine = wants_here(left, right, frames, s);
+                        s = pass_rows(left, right, frames, s, fine, n);
+                    }
+                    Span::Part(e) => {
+                        far = e;
+                        s = enter(left, right, frames, s);
+                    }
+                }
+            }
+        }
     }
 }
 

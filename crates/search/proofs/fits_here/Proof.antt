@@ -1,4 +1,4 @@
--- By the frame's row and its first tree.
+-- What the frame wants, and what the row is.
 use mathlib.Core.Path.{refl, sym}
 use Rattle.meaning.specs.Bytes.{_∧ᵇ_}
 use Rattle.search.specs.Kept.{fitsHere}
@@ -10,18 +10,11 @@ pub fits-here-spec : {M : Type 1} → statement M
 fits-here-spec =
     tie.close
     (tie.spec
-    (λ c. search needs)
-    (λ c. search needs)
-    (λ c. search needs)
     (λ c κs. search needs)
     (λ c. search needs)
     (λ c. search needs)
-    (λ c κs. search needs)
-    (λ c. search needs)
-    (λ c. search needs)
-    (λ c κs. search needs)
     (λ c κs. search needs)
     -- returns
-    (λ c. unfold fitsHere _∧ᵇ_ in rw (sym (c .before .before .before .before .before .before .row-in .ensures), sym (c .before .before .before .before .first-kind .ensures), sym (c .before .before .wants-values .ensures), c .before .if1 .taken) (c .plain .ensures))
+    (λ c. unfold fitsHere _∧ᵇ_ in rw (sym (c .before .before .before .wants-here .ensures), c .before .before .if1 .taken) (c .plain .ensures))
     -- returns-2
-    (λ c. unfold fitsHere _∧ᵇ_ in rw (sym (c .before .before .before .before .before .row-in .ensures), sym (c .before .before .before .first-kind .ensures), sym (c .before .wants-values .ensures), c .if1 .left) refl))
+    (λ c. unfold fitsHere _∧ᵇ_ in rw (sym (c .before .wants-here .ensures), c .if1 .left) refl))
