@@ -24,7 +24,7 @@ entered-entry l n h u Fs a e k =
     let odd : (1024 * l + 2 * n + 1) % 2 ≡ 1 = omega arith in
     record { at = omega arith; owes = omega arith; flag = rw odd refl }
 
-passed-row : (x : ℕ) (fine : Bool) → 0 < owedIn x → (rowIn (passedNumber x fine) ≡ rowIn x) × (owedIn (passedNumber x fine) + 1 ≡ owedIn x)
+pub passed-row : (x : ℕ) (fine : Bool) → 0 < owedIn x → (rowIn (passedNumber x fine) ≡ rowIn x) × (owedIn (passedNumber x fine) + 1 ≡ owedIn x)
 unfolding passedNumber rowIn owedIn
 passed-row x true h = (omega arith, omega arith)
 passed-row x false h = (omega arith, omega arith)

@@ -10,5 +10,6 @@ pub mod Changes
 pub mod Ends
 pub mod Fits
 pub mod Values
+pub mod Calls
 pub mod Moves
 pub mod Resumed

@@ -13,7 +13,7 @@ use Rattle.meaning.proofs.Steps.Progress.{value-stays as value-steps-not}
 use Rattle.terms.proofs.Scan.{size-some}
 use Rattle.search.specs.Frames.{Frame, below, Open}
 use Rattle.search.specs.Kept.{rowCount, kindAt, rowIn, owedIn, treeHere, wantsHere, fitsHere, fitsEnd, moved, enteredNumber, passedNumber, Held, Enters, Passes, Leaves}
-use Rattle.search.specs.Search.{Searching, Seen, done, enter, here, Room, Somewhere, Sees, Reached, Ending, ahead, stop, Stops}
+use Rattle.search.specs.Search.{Searching, Seen, done, enter, here, Room, Somewhere, Sees, Reached, Ending, ahead, stop, Went, Stops}
 use Rattle.search.specs.declared.Stand.{Stand}
 use Rattle.search.specs.declared.Sight.{Sight}
 use Rattle.search.specs.declared.Sight.the-variants.{Done, Skip, Enter, Here}
@@ -222,16 +222,22 @@ leave-on left right frames frames′ s s′ room deep b p =
     }
 
 -- THE HEAD OF THE LOOP
-pub record Went (left₀ left right frames₀ frames : List ℕ) (s₀ s : Stand) : Type 0 where
-  pub room : Room left right frames s
-  pub left-long : length left ≡ length left₀
-  pub frames-long : length frames ≡ length frames₀
-  pub less : ahead right s ≤ ahead right s₀
-  pub reached : (form : ℕ → Form) (k : ℕ) (Fs : List Frame) (ts : List Tree) → Searching form k left₀ right frames₀ s₀ Fs ts → Reached form k Fs ts left right frames s
-
 pub went-nowhere : (left right frames : List ℕ) (s : Stand) → Room left right frames s → Went left left right frames frames s s
 went-nowhere left right frames s room =
     record { room = room; left-long = refl; frames-long = refl; less = omega arith; reached = λ form k Fs ts x. record { framesAround = Fs; trees = ts; search = x; whole = refl } }
+
+-- one way after another
+pub went-then : (left₀ left left′ right frames₀ frames frames′ : List ℕ) (s₀ s s′ : Stand) → Went left₀ left right frames₀ frames s₀ s → Went left left′ right frames frames′ s s′ → Went left₀ left′ right frames₀ frames′ s₀ s′
+went-then left₀ left left′ right frames₀ frames frames′ s₀ s s′ w g =
+    record {
+      room = g .room;
+      left-long = g .left-long ∙ w .left-long;
+      frames-long = g .frames-long ∙ w .frames-long;
+      less = omega (arith, g .less, w .less);
+      reached = λ form k Fs ts y.
+          let z = w .reached form k Fs ts y in
+          reached-again form k Fs (z .framesAround) ts (z .trees) left′ right frames′ s′ (z .whole) (g .reached form k (z .framesAround) (z .trees) (z .search));
+    }
 
 module _ (left₀ left right frames₀ frames : List ℕ) (s₀ s : Stand) (w : Went left₀ left right frames₀ frames s₀ s) where
   pub somewhere-on : Somewhere left₀ right frames₀ s₀ → Somewhere left right frames s

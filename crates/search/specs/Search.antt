@@ -11,7 +11,7 @@ use Rattle.meaning.specs.Terms.{arity, Head, Tree, Forest, node, raw, rowOf, si
 use Rattle.meaning.specs.Steps.{value, stay, contract, looks}
 use Rattle.search.specs.Frames.{spelled, waits, Frame, below, around, Looked, Open, Passed}
 use Rattle.search.specs.Kinds.{looksBy}
-use Rattle.search.specs.Kept.{toCome, rowCount, treeHere, Kept}
+use Rattle.search.specs.Kept.{toCome, rowCount, kindAt, treeHere, Kept}
 use Rattle.search.specs.declared.Stand.{Stand}
 use Rattle.search.specs.declared.Sight.{Sight}
 use Rattle.search.specs.declared.Sight.the-variants.{Done, Skip, Enter, Here}
@@ -87,6 +87,28 @@ pub record Stopped (form : ℕ → Form) (k : ℕ) (Fs : List Frame) (ts : List 
 -- what a search has before it, rows to come and frames to leave: it grows less with every move
 unfoldable pub ahead : List ℕ → Stand → ℕ
 ahead right s = 2 * (rowCount right - s .r) + s .d
+
+-- the search went on, in slices as long as before
+pub record Went (left₀ left right frames₀ frames : List ℕ) (s₀ s : Stand) : Type 0 where
+  pub room : Room left right frames s
+  pub left-long : length left ≡ length left₀
+  pub frames-long : length frames ≡ length frames₀
+  pub less : ahead right s ≤ ahead right s₀
+  pub reached : (form : ℕ → Form) (k : ℕ) (Fs : List Frame) (ts : List Tree) → Searching form k left₀ right frames₀ s₀ Fs ts → Reached form k Fs ts left right frames s
+
+-- to a row that waits
+pub record Delves (left left′ right frames frames′ : List ℕ) (s s′ : Stand) : Type 0 where
+  pub went : Went left left′ right frames frames′ s s′
+  pub sees : Sees Enter left′ right frames′ s′
+
+-- the row at row r calls a foreign function with arguments, and the first argument calls one too
+pub record Nested (right : List ℕ) (r : ℕ) : Type 0 where
+  pub long : r + 3 < rowCount right
+  pub outer : kindAt right r ≡ 8
+  pub arguments : 0 < getD right (8 * r + 1) 0
+  pub called : kindAt right (r + 1) ≡ 7
+  pub inner : kindAt right (r + 2) ≡ 8
+  pub next : kindAt right (r + 3) ≡ 7
 
 pub record Stops (left left′ right frames frames′ : List ℕ) (s s′ : Stand) : Type 0 where
   pub room : Room left′ right frames′ s′

@@ -1,6 +1,7 @@
 // The search for the next step, in two lent buffers: the rows passed, the rows to come. It goes on where it stands: what was passed cannot step.
 ghost use mathlib.Core.Path.{_≡_};
 ghost use Prim.Native.Nat.{_+_, _*_, _-_, _/_, _≤_, _<_};
+ghost use mathlib.Core.Bool.{true};
 ghost use lib.Dec.{eqb, ltb};
 ghost use lib.ListN.{length, getD, drop};
 ghost use Rattle.layout.specs.Rows.{termRows};
@@ -10,7 +11,8 @@ ghost use Rattle.meaning.specs.Terms.{size, arity, rowOf, treeAt};
 ghost use Rattle.meaning.specs.Steps.{_∨ᵇ_, valueKinds, madeOfValues};
 ghost use Rattle.search.specs.Kinds.{waitsBy, looksBy, partKinds, partsBelow};
 ghost use Rattle.search.specs.Kept.{rowCount, kindAt, rowIn, owedIn, flagIn, enteredNumber, passedNumber, copied, treeHere, firstKind, wants, wantsHere, fitsHere, valueEnd, fitsEnd, Enters, Passes, Leaves};
-ghost use Rattle.search.specs.Search.{nextKind, lookedBy, Room, Somewhere, Sees, Stops, Spans, SpansHere, Resumes};
+ghost use Rattle.search.specs.Search.{nextKind, lookedBy, Room, Somewhere, Sees, Stops, Spans, SpansHere, Nested, Delves, Resumes};
+ghost use Rattle.search.specs.declared.Sight.the-variants.{Enter};
 
 // What a search sees where it stands.
 pub enum Sight {
@@ -226,8 +228,8 @@ fn waits_at(right: &[u8], r: usize) -> bool
     waits(k, 0)
 }
 
-// Whether the frame whose row is row `at` of the rows passed, with o trees to come, looks at the tree at the search.
-fn looked_at(left: &[u8], at: usize, right: &[u8], r: usize, o: usize) -> bool
+// Whether the frame whose row is row `at` of the rows passed, with o trees to come, looks at the tree at the search: by its place.
+fn looked_in(left: &[u8], at: usize, right: &[u8], r: usize, o: usize) -> bool
     requires { ⌜ (8 * at + 8 ≤ length (now left)) × (at ≤ 4096) × (8 * r + 8 ≤ length (now right)) × (o ≤ arity (rowOf (read termRow (drop (8 * at) (now left))) .head)) × ((arity (rowOf (read termRow (drop (8 * at) (now left))) .head) ≡ o → ⊥) → 8 * at + 16 ≤ length (now left)) ⌝ }
     ensures { λ b. ⌜ b ≡ lookedBy (now (left .entry)) at (now (right .entry)) r o ⌝ }
 {
@@ -245,6 +247,17 @@ fn looked_at(left: &[u8], at: usize, right: &[u8], r: usize, o: usize) -> bool
         left[layout::TERM_ROW * at + 9],
         t,
     )
+}
+
+// The same, at once of a frame that is made of values: it looks at all its trees.
+fn looked_at(left: &[u8], at: usize, right: &[u8], r: usize, o: usize) -> bool
+    requires { ⌜ (8 * at + 8 ≤ length (now left)) × (at ≤ 4096) × (8 * r + 8 ≤ length (now right)) × (o ≤ arity (rowOf (read termRow (drop (8 * at) (now left))) .head)) × ((arity (rowOf (read termRow (drop (8 * at) (now left))) .head) ≡ o → ⊥) → 8 * at + 16 ≤ length (now left)) ⌝ }
+    ensures { λ b. ⌜ b ≡ lookedBy (now (left .entry)) at (now (right .entry)) r o ⌝ }
+{
+    if made_of_values(left[layout::TERM_ROW * at]) {
+        return true;
+    }
+    looked_in(left, at, right, r, o)
 }
 
 // What is in sight of a search.
@@ -522,6 +535,42 @@ fn rests_at_end(left: &[u8], frames: &[u32], s: Stand) -> bool
     builds(left, frames, d - 1)
 }
 
+// Whether the row at row r calls a foreign function, and its first argument calls one too.
+fn nested(right: &[u8], r: usize) -> bool
+    requires { ⌜ r ≤ 4096 ⌝ }
+    ensures { λ b. ⌜ (b ≡ true → Nested (now (right .entry)) r) ⌝ }
+{
+    if right.len() / layout::TERM_ROW <= r + 3 {
+        return false;
+    }
+    if right[layout::TERM_ROW * r] != 8 {
+        return false;
+    }
+    if right[layout::TERM_ROW * r + 1] == 0 {
+        return false;
+    }
+    if right[layout::TERM_ROW * (r + 1)] != 7 {
+        return false;
+    }
+    if right[layout::TERM_ROW * (r + 2)] != 8 {
+        return false;
+    }
+    right[layout::TERM_ROW * (r + 3)] == 7
+}
+
+// Calls, each the first argument of the one before, are entered but for the last, and their functions passed.
+fn enter_calls(left: &mut [u8], right: &[u8], frames: &mut [u32], start: Stand) -> Stand
+    requires { ⌜ Room (now left) (now right) (now frames) start × Somewhere (now left) (now right) (now frames) start × Sees Enter (now left) (now right) (now frames) start ⌝ }
+    ensures { λ e. ⌜ Delves (now (left .entry)) (now (left .exit)) (now (right .entry)) (now (frames .entry)) (now (frames .exit)) start e ⌝ }
+{
+    let mut s = start;
+    while nested(right, s.r) {
+        s = enter(left, right, frames, s);
+        s = pass_rows(left, right, frames, s, true, 1);
+    }
+    s
+}
+
 // The search goes on until it stands at a row whose own rule is to be tried, or at the end of a frame whose own is: trees that are not looked at
 // and values are passed, rows that wait are entered, frames that are made of values are left.
 pub fn seek(left: &mut [u8], right: &[u8], frames: &mut [u32], start: Stand) -> Stand
@@ -561,6 +610,7 @@ pub fn seek(left: &mut [u8], right: &[u8], frames: &mut [u32], start: Stand) -> 
                 s = pass(left, right, frames, s, true);
             }
             Sight::Enter => {
+                s = enter_calls(left, right, frames, s);
                 let v = value_here(right, s, far);
                 match v {
                     Span::Whole(n) => {

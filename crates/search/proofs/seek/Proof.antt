@@ -7,12 +7,12 @@ use borrow.Author.Tests.{ltb-true}
 use Rattle.meaning.proofs.Trees.Tests.{left as first-true, right as second-true}
 use Rattle.terms.proofs.Scan.{size-some}
 use Rattle.search.specs.Kept.{treeHere, Passes}
-use Rattle.search.specs.Search.{Sees, SpansHere, ahead}
+use Rattle.search.specs.Search.{Sees, SpansHere, Went, ahead}
 use Rattle.search.specs.declared.Sight.{Sight}
 use Rattle.search.specs.declared.Sight.the-variants.{Done, Skip, Enter, Here}
 use Rattle.search.specs.declared.Span.{Span}
 use Rattle.search.proofs.Values.{whole-told}
-use Rattle.search.proofs.Moves.{Went, went-nowhere, somewhere-on, went-on, skip-on, enter-on, rest-on, whole-on, leave-on, skip-passable, enter-possible, row-there, rest-possible, tree-there, whole-possible, frame-there, leave-possible, stopped-here}
+use Rattle.search.proofs.Moves.{went-nowhere, somewhere-on, went-then, went-on, skip-on, enter-on, rest-on, whole-on, leave-on, skip-passable, enter-possible, row-there, rest-possible, tree-there, whole-possible, frame-there, leave-possible, stopped-here}
 use Rattle.search.proofs.seek.Statement.{statement}
 use Rattle.search.proofs.seek.Tie as tie
 
@@ -167,85 +167,132 @@ seek-spec =
     let g = skip-on (loop .left) (p .last .0) (args .right .now) (loop .frames) (p .last .1 .1 .0) (loop .s) (p .result) (loop .inv .room) y (p .ensures) in
     went-on (args .left .now) (loop .left) (args .right .now) (args .frames .now) (loop .frames) (args .start) (loop .s) (loop .inv) Skip (p .last .0) (p .last .1 .1 .0) (p .result) sees g)
     (λ c. search needs)
+    -- enter-calls-requires
+    (λ c κs.
+    let args = c .before .before .before .before .before .before .before .before .before .before .before .args in
+    let loop = c .before .before .before .before .before .before .before .loop in
+    let there = c .before .before .before .before .before .before .before .before .before .before .before .pre .1 in
+    let sees = subst (λ (x : Sight). Sees x (loop .left) (args .right .now) (loop .frames) (loop .s)) (c .before .before .enum-told4 .given .1) (c .before .before .before .before .look-ahead .ensures) in
+    (loop .inv .room, somewhere-on (args .left .now) (loop .left) (args .right .now) (args .frames .now) (loop .frames) (args .start) (loop .s) (loop .inv) there, sees))
     -- value-here-requires
     (λ c κs.
-    let args = c .before .before .before .before .before .before .before .before .before .args in
-    let loop = c .before .before .before .before .before .loop in
-    let there = c .before .before .before .before .before .before .before .before .before .pre .1 in
-    let sees = subst (λ (x : Sight). Sees x (loop .left) (args .right .now) (loop .frames) (loop .s)) (c .enum-told4 .given .1) (c .before .before .look-ahead .ensures) in
-    let y = tree-there (args .left .now) (loop .left) (args .right .now) (args .frames .now) (loop .frames) (args .start) (loop .s) (loop .inv) there sees in
-    (loop .inv .room .ends, loop .inv .room .few, omega (arith, y .1, loop .inv .room .rows), y .0))
+    let args = c .before .before .before .before .before .before .before .before .before .before .before .before .before .before .before .before .args in
+    let loop = c .before .before .before .before .before .before .before .before .before .before .before .before .loop in
+    let there = c .before .before .before .before .before .before .before .before .before .before .before .before .before .before .before .before .pre .1 in
+    let calls = c .before .before .before .before .enter-calls in
+    let left1 = calls .last .0 in
+    let frames1 = calls .last .1 .1 .0 in
+    let s1 = calls .result in
+    let sees = calls .ensures .sees in
+    let w = went-then (args .left .now) (loop .left) left1 (args .right .now) (args .frames .now) (loop .frames) frames1 (args .start) (loop .s) s1 (loop .inv) (calls .ensures .went) in
+    let y = tree-there (args .left .now) left1 (args .right .now) (args .frames .now) frames1 (args .start) s1 w there sees in
+    (w .room .ends, w .room .few, omega (arith, y .1, w .room .rows), y .0))
     (λ c. search needs)
     -- wants-here-requires
     (λ c κs.
-    let args = c .before .before .before .before .before .before .before .before .before .before .before .before .before .before .before .args in
-    let loop = c .before .before .before .before .before .before .before .before .before .before .before .loop in
-    let there = c .before .before .before .before .before .before .before .before .before .before .before .before .before .before .before .pre .1 in
-    let sees = subst (λ (x : Sight). Sees x (loop .left) (args .right .now) (loop .frames) (loop .s)) (c .before .before .before .before .before .before .enum-told4 .given .1) (c .before .before .before .before .before .before .before .before .look-ahead .ensures) in
-    let v = whole-told _ _ _ (subst (λ (x : Span). SpansHere x (args .right .now) (loop .s)) (c .before .before .before .v .given .1) (c .before .before .before .before .before .value-here .ensures)) in
-    let y = whole-possible (args .left .now) (loop .left) (args .right .now) (args .frames .now) (loop .frames) (args .start) (loop .s) (loop .inv) there sees (v .0) in
-    let some = size-some (treeHere (args .right .now) (loop .s .r)) in
-    let room = loop .inv .room in
+    let args = c .before .before .before .before .before .before .before .before .before .before .before .before .before .before .before .before .before .before .before .before .before .before .args in
+    let loop = c .before .before .before .before .before .before .before .before .before .before .before .before .before .before .before .before .before .before .loop in
+    let there = c .before .before .before .before .before .before .before .before .before .before .before .before .before .before .before .before .before .before .before .before .before .before .pre .1 in
+    let calls = c .before .before .before .before .before .before .before .before .before .before .enter-calls in
+    let left1 = calls .last .0 in
+    let frames1 = calls .last .1 .1 .0 in
+    let s1 = calls .result in
+    let sees = calls .ensures .sees in
+    let w = went-then (args .left .now) (loop .left) left1 (args .right .now) (args .frames .now) (loop .frames) frames1 (args .start) (loop .s) s1 (loop .inv) (calls .ensures .went) in
+    let v = whole-told _ _ _ (subst (λ (x : Span). SpansHere x (args .right .now) s1) (c .before .before .before .v .given .1) (c .before .before .before .before .before .value-here .ensures)) in
+    let y = whole-possible (args .left .now) left1 (args .right .now) (args .frames .now) frames1 (args .start) s1 w there sees (v .0) in
+    let some = size-some (treeHere (args .right .now) (s1 .r)) in
+    let room = w .room in
     (omega (arith, room .left-long), omega (arith, room .rows), omega (arith, some, y .passable .small), v .0, omega (arith, y .passable .shallow, room .deep), y .inside))
     -- pass-rows-requires
     (λ c κs.
-    let args = c .before .before .before .before .before .before .before .before .before .before .before .before .before .before .before .before .before .before .args in
-    let loop = c .before .before .before .before .before .before .before .before .before .before .before .before .before .before .loop in
-    let there = c .before .before .before .before .before .before .before .before .before .before .before .before .before .before .before .before .before .before .pre .1 in
-    let sees = subst (λ (x : Sight). Sees x (loop .left) (args .right .now) (loop .frames) (loop .s)) (c .before .before .before .before .before .before .before .before .before .enum-told4 .given .1) (c .before .before .before .before .before .before .before .before .before .before .before .look-ahead .ensures) in
-    let v = whole-told _ _ _ (subst (λ (x : Span). SpansHere x (args .right .now) (loop .s)) (c .before .before .before .before .before .before .v .given .1) (c .before .before .before .before .before .before .before .before .value-here .ensures)) in
-    let y = whole-possible (args .left .now) (loop .left) (args .right .now) (args .frames .now) (loop .frames) (args .start) (loop .s) (loop .inv) there sees (v .0) in
-    (loop .inv .room, v .1, omega (arith, v .1, y .passable .small), y .passable .inside, y .passable .shallow, y .passable .owes))
+    let args = c .before .before .before .before .before .before .before .before .before .before .before .before .before .before .before .before .before .before .before .before .before .before .before .before .before .args in
+    let loop = c .before .before .before .before .before .before .before .before .before .before .before .before .before .before .before .before .before .before .before .before .before .loop in
+    let there = c .before .before .before .before .before .before .before .before .before .before .before .before .before .before .before .before .before .before .before .before .before .before .before .before .before .pre .1 in
+    let calls = c .before .before .before .before .before .before .before .before .before .before .before .before .before .enter-calls in
+    let left1 = calls .last .0 in
+    let frames1 = calls .last .1 .1 .0 in
+    let s1 = calls .result in
+    let sees = calls .ensures .sees in
+    let w = went-then (args .left .now) (loop .left) left1 (args .right .now) (args .frames .now) (loop .frames) frames1 (args .start) (loop .s) s1 (loop .inv) (calls .ensures .went) in
+    let v = whole-told _ _ _ (subst (λ (x : Span). SpansHere x (args .right .now) s1) (c .before .before .before .before .before .before .v .given .1) (c .before .before .before .before .before .before .before .before .value-here .ensures)) in
+    let y = whole-possible (args .left .now) left1 (args .right .now) (args .frames .now) frames1 (args .start) s1 w there sees (v .0) in
+    (w .room, v .1, omega (arith, v .1, y .passable .small), y .passable .inside, y .passable .shallow, y .passable .owes))
     -- loop-less-4
     (λ c.
-    let args = c .before .before .before .before .before .before .before .before .before .before .before .before .before .before .before .before .before .before .before .before .before .before .before .args in
-    let loop = c .before .before .before .before .before .before .before .before .before .before .before .before .before .before .before .before .before .before .before .loop in
-    let there = c .before .before .before .before .before .before .before .before .before .before .before .before .before .before .before .before .before .before .before .before .before .before .before .pre .1 in
-    let sees = subst (λ (x : Sight). Sees x (loop .left) (args .right .now) (loop .frames) (loop .s)) (c .before .before .before .before .before .before .before .before .before .before .before .before .before .before .enum-told4 .given .1) (c .before .before .before .before .before .before .before .before .before .before .before .before .before .before .before .before .look-ahead .ensures) in
-    let v = whole-told _ _ _ (subst (λ (x : Span). SpansHere x (args .right .now) (loop .s)) (c .before .before .before .before .before .before .before .before .before .before .before .v .given .1) (c .before .before .before .before .before .before .before .before .before .before .before .before .before .value-here .ensures)) in
-    let y = whole-possible (args .left .now) (loop .left) (args .right .now) (args .frames .now) (loop .frames) (args .start) (loop .s) (loop .inv) there sees (v .0) in
+    let args = c .before .before .before .before .before .before .before .before .before .before .before .before .before .before .before .before .before .before .before .before .before .before .before .before .before .before .before .before .before .before .args in
+    let loop = c .before .before .before .before .before .before .before .before .before .before .before .before .before .before .before .before .before .before .before .before .before .before .before .before .before .before .loop in
+    let there = c .before .before .before .before .before .before .before .before .before .before .before .before .before .before .before .before .before .before .before .before .before .before .before .before .before .before .before .before .before .before .pre .1 in
+    let calls = c .before .before .before .before .before .before .before .before .before .before .before .before .before .before .before .before .before .before .enter-calls in
+    let left1 = calls .last .0 in
+    let frames1 = calls .last .1 .1 .0 in
+    let s1 = calls .result in
+    let sees = calls .ensures .sees in
+    let w = went-then (args .left .now) (loop .left) left1 (args .right .now) (args .frames .now) (loop .frames) frames1 (args .start) (loop .s) s1 (loop .inv) (calls .ensures .went) in
+    let v = whole-told _ _ _ (subst (λ (x : Span). SpansHere x (args .right .now) s1) (c .before .before .before .before .before .before .before .before .before .before .before .v .given .1) (c .before .before .before .before .before .before .before .before .before .before .before .before .before .value-here .ensures)) in
+    let y = whole-possible (args .left .now) left1 (args .right .now) (args .frames .now) frames1 (args .start) s1 w there sees (v .0) in
     let p = c .before .before .before .before .pass-rows in
-    let q = subst (λ (b : Bool). Passes (loop .left) (p .last .0) (args .right .now) (loop .frames) (p .last .1 .1 .0) (loop .s) b (p .result)) (c .before .before .before .before .before .before .before .wants-here .ensures) (p .ensures) in
-    let g = whole-on (loop .left) (p .last .0) (args .right .now) (loop .frames) (p .last .1 .1 .0) (loop .s) (p .result) (loop .inv .room) (y .passable) (v .2) q in
-    g .less)
+    let q = subst (λ (b : Bool). Passes left1 (p .last .0) (args .right .now) frames1 (p .last .1 .1 .0) s1 b (p .result)) (c .before .before .before .before .before .before .before .wants-here .ensures) (p .ensures) in
+    let g = whole-on left1 (p .last .0) (args .right .now) frames1 (p .last .1 .1 .0) s1 (p .result) (w .room) (y .passable) (v .2) q in
+    omega (arith, g .less, calls .ensures .went .less))
     -- loop-again-4
     (λ c.
-    let args = c .before .before .before .before .before .before .before .before .before .before .before .before .before .before .before .before .before .before .before .before .before .before .before .args in
-    let loop = c .before .before .before .before .before .before .before .before .before .before .before .before .before .before .before .before .before .before .before .loop in
-    let there = c .before .before .before .before .before .before .before .before .before .before .before .before .before .before .before .before .before .before .before .before .before .before .before .pre .1 in
-    let sees = subst (λ (x : Sight). Sees x (loop .left) (args .right .now) (loop .frames) (loop .s)) (c .before .before .before .before .before .before .before .before .before .before .before .before .before .before .enum-told4 .given .1) (c .before .before .before .before .before .before .before .before .before .before .before .before .before .before .before .before .look-ahead .ensures) in
-    let v = whole-told _ _ _ (subst (λ (x : Span). SpansHere x (args .right .now) (loop .s)) (c .before .before .before .before .before .before .before .before .before .before .before .v .given .1) (c .before .before .before .before .before .before .before .before .before .before .before .before .before .value-here .ensures)) in
-    let y = whole-possible (args .left .now) (loop .left) (args .right .now) (args .frames .now) (loop .frames) (args .start) (loop .s) (loop .inv) there sees (v .0) in
+    let args = c .before .before .before .before .before .before .before .before .before .before .before .before .before .before .before .before .before .before .before .before .before .before .before .before .before .before .before .before .before .before .args in
+    let loop = c .before .before .before .before .before .before .before .before .before .before .before .before .before .before .before .before .before .before .before .before .before .before .before .before .before .before .loop in
+    let there = c .before .before .before .before .before .before .before .before .before .before .before .before .before .before .before .before .before .before .before .before .before .before .before .before .before .before .before .before .before .before .pre .1 in
+    let calls = c .before .before .before .before .before .before .before .before .before .before .before .before .before .before .before .before .before .before .enter-calls in
+    let left1 = calls .last .0 in
+    let frames1 = calls .last .1 .1 .0 in
+    let s1 = calls .result in
+    let sees = calls .ensures .sees in
+    let w = went-then (args .left .now) (loop .left) left1 (args .right .now) (args .frames .now) (loop .frames) frames1 (args .start) (loop .s) s1 (loop .inv) (calls .ensures .went) in
+    let v = whole-told _ _ _ (subst (λ (x : Span). SpansHere x (args .right .now) s1) (c .before .before .before .before .before .before .before .before .before .before .before .v .given .1) (c .before .before .before .before .before .before .before .before .before .before .before .before .before .value-here .ensures)) in
+    let y = whole-possible (args .left .now) left1 (args .right .now) (args .frames .now) frames1 (args .start) s1 w there sees (v .0) in
     let p = c .before .before .before .before .pass-rows in
-    let q = subst (λ (b : Bool). Passes (loop .left) (p .last .0) (args .right .now) (loop .frames) (p .last .1 .1 .0) (loop .s) b (p .result)) (c .before .before .before .before .before .before .before .wants-here .ensures) (p .ensures) in
-    let g = whole-on (loop .left) (p .last .0) (args .right .now) (loop .frames) (p .last .1 .1 .0) (loop .s) (p .result) (loop .inv .room) (y .passable) (v .2) q in
-    went-on (args .left .now) (loop .left) (args .right .now) (args .frames .now) (loop .frames) (args .start) (loop .s) (loop .inv) Enter (p .last .0) (p .last .1 .1 .0) (p .result) sees g)
+    let q = subst (λ (b : Bool). Passes left1 (p .last .0) (args .right .now) frames1 (p .last .1 .1 .0) s1 b (p .result)) (c .before .before .before .before .before .before .before .wants-here .ensures) (p .ensures) in
+    let g = whole-on left1 (p .last .0) (args .right .now) frames1 (p .last .1 .1 .0) s1 (p .result) (w .room) (y .passable) (v .2) q in
+    went-on (args .left .now) left1 (args .right .now) (args .frames .now) frames1 (args .start) s1 w Enter (p .last .0) (p .last .1 .1 .0) (p .result) sees g)
     (λ c. search needs)
     -- enter-requires
     (λ c κs.
-    let args = c .before .before .before .before .before .before .before .before .before .before .before .before .before .before .before .args in
-    let loop = c .before .before .before .before .before .before .before .before .before .before .before .loop in
-    let there = c .before .before .before .before .before .before .before .before .before .before .before .before .before .before .before .pre .1 in
-    let sees = subst (λ (x : Sight). Sees x (loop .left) (args .right .now) (loop .frames) (loop .s)) (c .before .before .before .before .before .before .enum-told4 .given .1) (c .before .before .before .before .before .before .before .before .look-ahead .ensures) in
-    let y = enter-possible (args .left .now) (loop .left) (args .right .now) (args .frames .now) (loop .frames) (args .start) (loop .s) (loop .inv) there sees in
-    (loop .inv .room, y .0, y .1))
+    let args = c .before .before .before .before .before .before .before .before .before .before .before .before .before .before .before .before .before .before .before .before .before .before .args in
+    let loop = c .before .before .before .before .before .before .before .before .before .before .before .before .before .before .before .before .before .before .loop in
+    let there = c .before .before .before .before .before .before .before .before .before .before .before .before .before .before .before .before .before .before .before .before .before .before .pre .1 in
+    let calls = c .before .before .before .before .before .before .before .before .before .before .enter-calls in
+    let left1 = calls .last .0 in
+    let frames1 = calls .last .1 .1 .0 in
+    let s1 = calls .result in
+    let sees = calls .ensures .sees in
+    let w = went-then (args .left .now) (loop .left) left1 (args .right .now) (args .frames .now) (loop .frames) frames1 (args .start) (loop .s) s1 (loop .inv) (calls .ensures .went) in
+    let y = enter-possible (args .left .now) left1 (args .right .now) (args .frames .now) frames1 (args .start) s1 w there sees in
+    (w .room, y .0, y .1))
     -- loop-less-5
     (λ c.
-    let args = c .before .before .before .before .before .before .before .before .before .before .before .before .before .before .before .before .before .before .before .before .args in
-    let loop = c .before .before .before .before .before .before .before .before .before .before .before .before .before .before .before .before .loop in
-    let there = c .before .before .before .before .before .before .before .before .before .before .before .before .before .before .before .before .before .before .before .before .pre .1 in
-    let sees = subst (λ (x : Sight). Sees x (loop .left) (args .right .now) (loop .frames) (loop .s)) (c .before .before .before .before .before .before .before .before .before .before .before .enum-told4 .given .1) (c .before .before .before .before .before .before .before .before .before .before .before .before .before .look-ahead .ensures) in
-    let y = enter-possible (args .left .now) (loop .left) (args .right .now) (args .frames .now) (loop .frames) (args .start) (loop .s) (loop .inv) there sees in
+    let args = c .before .before .before .before .before .before .before .before .before .before .before .before .before .before .before .before .before .before .before .before .before .before .before .before .before .before .before .args in
+    let loop = c .before .before .before .before .before .before .before .before .before .before .before .before .before .before .before .before .before .before .before .before .before .before .before .loop in
+    let there = c .before .before .before .before .before .before .before .before .before .before .before .before .before .before .before .before .before .before .before .before .before .before .before .before .before .before .before .pre .1 in
+    let calls = c .before .before .before .before .before .before .before .before .before .before .before .before .before .before .before .enter-calls in
+    let left1 = calls .last .0 in
+    let frames1 = calls .last .1 .1 .0 in
+    let s1 = calls .result in
+    let sees = calls .ensures .sees in
+    let w = went-then (args .left .now) (loop .left) left1 (args .right .now) (args .frames .now) (loop .frames) frames1 (args .start) (loop .s) s1 (loop .inv) (calls .ensures .went) in
+    let y = enter-possible (args .left .now) left1 (args .right .now) (args .frames .now) frames1 (args .start) s1 w there sees in
     let p = c .before .before .before .before .enter in
-    let g = enter-on (loop .left) (p .last .0) (args .right .now) (loop .frames) (p .last .1 .1 .0) (loop .s) (p .result) (loop .inv .room) (y .0) (p .ensures) in
-    g .less)
+    let g = enter-on left1 (p .last .0) (args .right .now) frames1 (p .last .1 .1 .0) s1 (p .result) (w .room) (y .0) (p .ensures) in
+    omega (arith, g .less, calls .ensures .went .less))
     -- loop-again-5
     (λ c.
-    let args = c .before .before .before .before .before .before .before .before .before .before .before .before .before .before .before .before .before .before .before .before .args in
-    let loop = c .before .before .before .before .before .before .before .before .before .before .before .before .before .before .before .before .loop in
-    let there = c .before .before .before .before .before .before .before .before .before .before .before .before .before .before .before .before .before .before .before .before .pre .1 in
-    let sees = subst (λ (x : Sight). Sees x (loop .left) (args .right .now) (loop .frames) (loop .s)) (c .before .before .before .before .before .before .before .before .before .before .before .enum-told4 .given .1) (c .before .before .before .before .before .before .before .before .before .before .before .before .before .look-ahead .ensures) in
-    let y = enter-possible (args .left .now) (loop .left) (args .right .now) (args .frames .now) (loop .frames) (args .start) (loop .s) (loop .inv) there sees in
+    let args = c .before .before .before .before .before .before .before .before .before .before .before .before .before .before .before .before .before .before .before .before .before .before .before .before .before .before .before .args in
+    let loop = c .before .before .before .before .before .before .before .before .before .before .before .before .before .before .before .before .before .before .before .before .before .before .before .loop in
+    let there = c .before .before .before .before .before .before .before .before .before .before .before .before .before .before .before .before .before .before .before .before .before .before .before .before .before .before .before .pre .1 in
+    let calls = c .before .before .before .before .before .before .before .before .before .before .before .before .before .before .before .enter-calls in
+    let left1 = calls .last .0 in
+    let frames1 = calls .last .1 .1 .0 in
+    let s1 = calls .result in
+    let sees = calls .ensures .sees in
+    let w = went-then (args .left .now) (loop .left) left1 (args .right .now) (args .frames .now) (loop .frames) frames1 (args .start) (loop .s) s1 (loop .inv) (calls .ensures .went) in
+    let y = enter-possible (args .left .now) left1 (args .right .now) (args .frames .now) frames1 (args .start) s1 w there sees in
     let p = c .before .before .before .before .enter in
-    let g = enter-on (loop .left) (p .last .0) (args .right .now) (loop .frames) (p .last .1 .1 .0) (loop .s) (p .result) (loop .inv .room) (y .0) (p .ensures) in
-    went-on (args .left .now) (loop .left) (args .right .now) (args .frames .now) (loop .frames) (args .start) (loop .s) (loop .inv) Enter (p .last .0) (p .last .1 .1 .0) (p .result) sees g))
+    let g = enter-on left1 (p .last .0) (args .right .now) frames1 (p .last .1 .1 .0) s1 (p .result) (w .room) (y .0) (p .ensures) in
+    went-on (args .left .now) left1 (args .right .now) (args .frames .now) frames1 (args .start) s1 w Enter (p .last .0) (p .last .1 .1 .0) (p .result) sees g))
