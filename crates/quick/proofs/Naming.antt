@@ -33,10 +33,10 @@ module _ (s b es ns : List ℕ) (p q : Place) (j n ty w : ℕ) (e : j ∷ n ∷ 
       → q ≡ record { i = p .i + 1; s = p .s; b = p .b; ok = true; down = false; future = p .future } → SeesRow (forms s) (rowTable b) es ns es ns hs p q
   unfolding headFrom within _∧ᵇ_ dueAt
   sees-variable hs at fit c o to =
-      let here = is-kind s b es es p q j n ty w e 5 at in
+      let here = is-kind b p j n ty w e 5 at in
       subst (λ (q : Place). SeesRow (forms s) (rowTable b) es ns es ns hs p q) (sym to)
       (sees s b es es p record { i = p .i + 1; s = p .s; b = p .b; ok = true; down = false; future = p .future } 5 n ty w (at .here) here ns ns hs refl record { within = room; chained = c } refl refl refl
-      (fields-kept s b es es p q j n ty w e a-number 5 fit) (λ f. (f, refl)) (omega arith)
+      (fields-kept a-number j 5 n ty w fit) (λ f. (f, refl)) (omega arith)
       (λ d. plain-seen s b (p .i) 5 n ty w (at .here) here [] (dues es (p .s)) (inScope ns (p .b)) refl refl refl
       (λ _. judged-variable s b (p .i) 5 n ty w (at .here) here (find (inScope ns (p .b))) refl ∙ sym o) d))
 
@@ -46,9 +46,9 @@ module _ (s b es ns : List ℕ) (p q : Place) (j n ty w : ℕ) (e : j ∷ n ∷ 
       → q ≡ record { i = p .i + 1; s = r; b = c; ok = true; down = true; future = p .future } → SeesRow (forms s) (rowTable b) es ns es′ ns′ hs′ p q
   unfolding headFrom within _∧ᵇ_ owes dueAt
   sees-native es′ ns′ hs′ at fit a t o m r c len x same named d ch sc to =
-      let here = is-kind s b es es p q j n ty w e 6 at in
+      let here = is-kind b p j n ty w e 6 at in
       let ps = lambda-params s ty a o in
       subst (λ (q : Place). SeesRow (forms s) (rowTable b) es ns es′ ns′ hs′ p q) (sym to)
       (sees s b es es′ p record { i = p .i + 1; s = r; b = c; ok = true; down = true; future = p .future } 6 n ty w (at .here) here ns ns′ hs′ refl record { within = omega arith; chained = ch } same named refl
-      (fields-kept s b es es p q j n ty w e none-used 6 fit) (λ f. (f, refl)) (rw d (omega arith))
+      (fields-kept none-used j 6 n ty w fit) (λ f. (f, refl)) (rw d (omega arith))
       (λ k. native-seen s b (p .i) n ty w (at .here) here a m (dues es (p .s)) (inScope ns (p .b)) (len ∙ rw ps) (sym o) (rw (d, sc, ← ps, ← t) at k)))
