@@ -4,3 +4,4 @@ pub mod Loops
 pub mod Meets
 pub mod Rows
 pub mod Bare
+pub mod Once

@@ -63,7 +63,7 @@ module _ {l : List (List ℕ)} {body : ℕ} {names bounds : List ℕ} (ready : R
   written-start form masks d z = rw z refl
 
   module _ {form : ℕ → Form} {masks : List ℕ} {owed i w : ℕ} (go : Going form l body names bounds masks owed i w) where
-    none-left : owed ≡ 0 → left form l names bounds masks owed i ≡ []
+    pub none-left : owed ≡ 0 → left form l names bounds masks owed i ≡ []
     unfolding below
     none-left z = rw z (run-none form names (argRows l bounds) (drop i l))
 

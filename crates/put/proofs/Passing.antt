@@ -132,7 +132,7 @@ module _ (form : ℕ → Form) (ys : List ℕ) (ts : ℕ → Tree) where
   here σ m e (bind x) ty g l = refl
 
   -- the pass at a row that is a head's numbers
-  at-row : (args : ℕ → List (List ℕ)) (r : Row) (rs : List (List ℕ)) (m : ℕ) (ms : List ℕ)
+  pub at-row : (args : ℕ → List (List ℕ)) (r : Row) (rs : List (List ℕ)) (m : ℕ) (ms : List ℕ)
       → run form ys args (raw r ∷ rs) (m ∷ ms) ≡ rowsFor args (chosen ys (r .head) m) (raw r) ++ run form ys args rs (after form ys r m ms)
   unfolding run
   at-row args r rs m ms = rw (row-raw r) refl

@@ -6,9 +6,14 @@ use mathlib.Core.List.{List, [], _∷_, _++_, map}
 use mathlib.Core.Option.{Option, none, some}
 use lib.Dec.{eqb}
 use lib.ListN.{length, getD, take, drop}
-use Rattle.meaning.specs.Types.{Form, params, find, low, rest}
-use Rattle.meaning.specs.Terms.{Head, arity, code, wordOf, Row, rowOf, size, treeAt}
+use Rattle.meaning.specs.Types.{Form, Param, params, find, low, rest}
+use Rattle.meaning.specs.Terms.{Head, arity, code, wordOf, Row, rowOf, raw, size, treeAt}
 use Rattle.meaning.specs.Steps.{_∨ᵇ_}
+use Rattle.put.specs.declared.Range.{Range}
+use Rattle.put.specs.declared.Turn.{Turn}
+use Rattle.put.specs.declared.Turn.the-variants.{Stands, Whole, Puts, Mixed}
+use Rattle.put.specs.declared.Pass.{Pass}
+use Rattle.put.specs.declared.Pass.the-variants.{Made, Unknown}
 
 unfoldable pub next : Option ℕ → Option ℕ
 next none = none
@@ -113,3 +118,44 @@ pub record Ready (l : List (List ℕ)) (body : ℕ) (names bounds : List ℕ) : 
   pub eight : length names ≤ 8
   pub bounded : length names < length bounds
   pub within : (j : ℕ) → j < length names → (getD bounds j 0 ≤ getD bounds (j + 1) 0) × (getD bounds (j + 1) 0 ≤ length l)
+
+-- In one pass ------------------------------------------------------------------------------------------------------
+
+-- each of the names is one of a function's
+abbrev pub Among : List ℕ → List Param → Type 0
+Among names ps = (j : ℕ) → j < length names → told (find ps (getD names j 0)) ≡ true
+
+-- a range with one name more
+pub record Widens (x z : Range) (y : ℕ) : Type 0 where
+  pub lower : z .low ≤ x .low
+  pub higher : x .high ≤ z .high
+  pub above : z .low ≤ y
+  pub under : y ≤ z .high
+  pub most : (n : ℕ) → x .high ≤ n → y ≤ n → z .high ≤ n
+
+-- the names are in a range
+pub record Within (names : List ℕ) (x : Range) : Type 0 where
+  pub ordered : x .low ≤ x .high
+  pub small : x .high ≤ 65535
+  pub each : (j : ℕ) → j < length names → (x .low ≤ getD names j 0) × (getD names j 0 ≤ x .high)
+
+-- under this mask no name is put
+abbrev pub Shut : List ℕ → ℕ → Type 0
+Shut names m = (x : ℕ) → pick names m x ≡ none
+
+-- what a pass does at a row that is met under no mask
+unfoldable pub Turns : (ℕ → Form) → List ℕ → List ℕ → Row → Turn → Type 0
+Turns form names bounds r Stands = Bare form names r × (chosen names (r .head) 0 ≡ none)
+Turns form names bounds r Whole = (chosen names (r .head) 0 ≡ none) × ((i : ℕ) → Shut names (inner form names (r .head) (r .type) 0 i))
+Turns form names bounds r (Puts f t) = Bare form names r × ((j : ℕ) × (chosen names (r .head) 0 ≡ some j) × (f ≡ getD bounds j 0) × (t ≡ getD bounds (j + 1) 0))
+Turns form names bounds r Mixed = Unit {0}
+
+-- each row is as its head is written
+abbrev pub Exact : List (List ℕ) → Type 0
+Exact l = map raw (map rowOf l) ≡ l
+
+-- what a pass made at the front of a table: the row behind the body, and how many rows
+unfoldable pub Passes : (ℕ → Form) → List (List ℕ) → ℕ → List ℕ → List ℕ → List (List ℕ) → Pass → Type 0
+Passes form l body names bounds to Unknown = Unit {0}
+Passes form l body names bounds to (Made e n) =
+    (e ≡ body + size (treeAt (map rowOf l) body)) × (n ≡ length (putRows form l body names bounds)) × (take n to ≡ putRows form l body names bounds)

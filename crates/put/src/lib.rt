@@ -6,14 +6,14 @@ ghost use mathlib.Core.Path.{_≡_};
 ghost use mathlib.Core.List.{_++_};
 ghost use Prim.Native.Nat.{ℕ, _+_, _*_, _-_, _≤_, _<_};
 ghost use mathlib.Core.Bool.{true, false};
-ghost use lib.ListN.{length, set, take, drop};
+ghost use lib.ListN.{length, getD, set, take, drop};
 ghost use Rattle.layout.specs.Rows.{numbers, found, typeTable, rowTable};
 ghost use Rattle.layout.specs.declared.Found.the-variants.{At};
-ghost use Rattle.meaning.specs.Types.{formOf, find, params};
+ghost use Rattle.meaning.specs.Types.{formOf, find, params, names as namesOf};
 ghost use Rattle.meaning.specs.Terms.{arity, rowOf};
 ghost use Rattle.meaning.specs.Steps.{_∨ᵇ_};
 ghost use Rattle.terms.specs.Masks.{bit};
-ghost use Rattle.put.specs.Put.{standing, pick, chosen, told, binds, mark, Bare, firstRow, endRow, Descends, Ready, putRows};
+ghost use Rattle.put.specs.Put.{standing, pick, chosen, told, binds, mark, Bare, firstRow, endRow, Descends, Ready, putRows, Among, Widens, Within, Turns, Exact, Passes};
 
 // The rows that are copied for a row: from and to.
 pub struct Span {
@@ -342,6 +342,218 @@ pub fn write_put(
         return;
     }
     write_masked(types, rows, body, names, bounds, to);
+}
+
+// How many names a function of type t binds.
+pub fn param_count(types: &[u8], t: u16) -> usize
+    ensures { λ n. ⌜ (n ≡ length (params (formOf (typeTable (now (types .entry))) t))) × (n ≤ 8) ⌝ }
+{
+    let f = rules::forms::form_of(types, t);
+    if f < 6 {
+        return 0;
+    }
+    if 7 < f {
+        return 0;
+    }
+    rules::forms::parts_of(types, t)
+}
+
+// The k-th of them, counted from 0.
+pub fn param_name(types: &[u8], t: u16, k: usize) -> u16
+    requires { ⌜ k < length (params (formOf (typeTable (now types)) t)) ⌝ }
+    ensures { λ x. ⌜ x ≡ getD (namesOf (params (formOf (typeTable (now (types .entry))) t))) k 0 ⌝ }
+{
+    rules::forms::name_of(types, t, k)
+}
+
+// Whether a function of type t binds all the names, each at its place.
+fn binds_all(types: &[u8], names: &[u16], t: u16) -> bool
+    ensures { λ b. ⌜ (b ≡ true → Among (now (names .entry)) (params (formOf (typeTable (now (types .entry))) t))) ⌝ }
+{
+    let n = names.len();
+    if param_count(types, t) < n {
+        return false;
+    }
+    let mut k: usize = 0;
+    while k < n {
+        if param_name(types, t, k) != names[k] {
+            return false;
+        }
+        k += 1;
+    }
+    true
+}
+
+// The least and the greatest of some names.
+pub struct Range {
+    pub low: usize,
+    pub high: usize,
+}
+
+// A range with one name more.
+fn widen(x: Range, y: usize) -> Range
+    ensures { λ z. ⌜ Widens x z y ⌝ }
+{
+    let low = x.low;
+    let high = x.high;
+    if y < low {
+        if high < y {
+            return Range { low: y, high: y };
+        }
+        return Range { low: y, high: high };
+    }
+    if high < y {
+        return Range { low: low, high: y };
+    }
+    x
+}
+
+// The range that the names are in.
+fn range_of(names: &[u16]) -> Range
+    ensures { λ x. ⌜ Within (now (names .entry)) x ⌝ }
+{
+    let n = names.len();
+    if n == 0 {
+        return Range { low: 0, high: 0 };
+    }
+    let y = layout::wide(names[0]);
+    let mut x = Range { low: y, high: y };
+    let mut k: usize = 1;
+    while k < n {
+        x = widen(x, layout::wide(names[k]));
+        k += 1;
+    }
+    x
+}
+
+// All numbers of 32 bits.
+const WORDS: usize = 4294967296;
+
+// Whether a row may be one of the names in a range or hide one: it is a function, or its word is in the range, which one test tells of the word's
+// distance from the least name.
+fn may_touch(r: Row, x: Range) -> bool
+    requires { ⌜ (x .low ≤ x .high) × (x .high ≤ 65535) ⌝ }
+    ensures { λ b. ⌜ (b ≡ false → (r .kind ≡ 6 → ⊥) × (x .low ≤ r .word → r .word ≤ x .high → ⊥)) ⌝ }
+{
+    let k = r.kind;
+    if k == 6 {
+        return true;
+    }
+    let low = x.low;
+    (r.word as usize + WORDS - low) % WORDS <= x.high - low
+}
+
+// What a pass does at a row.
+pub enum Turn {
+    // the row stands, and its trees come next
+    Stands,
+    // the row and all its trees stand: all names are hidden there
+    Whole,
+    // rows are put for it, from one to before another
+    Puts(usize, usize),
+    // some names are hidden below it, and others may not be
+    Mixed,
+}
+
+// What a pass does at a row that may be a name or hide one.
+fn turn_at(types: &[u8], names: &[u16], bounds: &[u16], r: Row) -> Turn
+    requires { ⌜ (length (now names) ≤ 8) × (length (now names) < length (now bounds)) ⌝ }
+    ensures { λ t. ⌜ Turns (formOf (typeTable (now (types .entry)))) (now (names .entry)) (now (bounds .entry)) (rowOf (numbers r)) t ⌝ }
+{
+    let k = r.kind;
+    if k == 5 {
+        let f = place_of(names, 0, r.word);
+        match f {
+            Found::At(j) => {
+                let p = j as usize;
+                return Turn::Puts(layout::wide(bounds[p]), layout::wide(bounds[p + 1]));
+            }
+            Found::Nothing => {
+                return Turn::Stands;
+            }
+        }
+    }
+    if k == 6 {
+        if binds_all(types, names, r.ty) {
+            return Turn::Whole;
+        }
+    }
+    if hides_some(types, names, r) {
+        return Turn::Mixed;
+    }
+    Turn::Stands
+}
+
+// What one pass made: the row behind the body and the rows written; or nothing is known.
+pub enum Pass {
+    Made(usize, usize),
+    Unknown,
+}
+
+// The rows of the body at a row with the arguments put, in one pass, into a table that may have more room. Rows that stand side by side are copied
+// at once. It knows nothing where there is no room, or where a row hides some of the names.
+pub fn put_once(
+    types: &[u8],
+    rows: &[u8],
+    body: usize,
+    names: &[u16],
+    bounds: &[u16],
+    to: &mut [u8],
+) -> Pass
+    requires { ⌜ Ready (rowTable (now rows)) body (now names) (now bounds) × Exact (rowTable (now rows)) × (length (now to) ≤ 32768) ⌝ }
+    ensures { λ p. ⌜ Passes (formOf (typeTable (now (types .entry)))) (rowTable (now (rows .entry))) body (now (names .entry)) (now (bounds .entry)) (rowTable (now (to .exit))) p ⌝ }
+{
+    let room = layout::term_rows(to);
+    let x = range_of(names);
+    let mut owed: usize = 1;
+    let mut i = body;
+    let mut from = body;
+    let mut w: usize = 0;
+    while 0 < owed {
+        let r = layout::row_at(rows, i);
+        if may_touch(r, x) {
+            let t = turn_at(types, names, bounds, r);
+            match t {
+                Turn::Stands => {
+                    owed = owed - 1 + terms::children(r);
+                    i += 1;
+                }
+                Turn::Whole => {
+                    owed -= 1;
+                    i = terms::end_of(rows, i);
+                }
+                Turn::Puts(a, b) => {
+                    let n = (i - from) + (b - a);
+                    if room < w + n {
+                        return Pass::Unknown;
+                    }
+                    copy_both(
+                        to,
+                        w,
+                        rows,
+                        Span { from: from, to: i },
+                        Span { from: a, to: b },
+                    );
+                    owed = owed - 1 + terms::children(r);
+                    w += n;
+                    i += 1;
+                    from = i;
+                }
+                Turn::Mixed => {
+                    return Pass::Unknown;
+                }
+            }
+        } else {
+            owed = owed - 1 + terms::children(r);
+            i += 1;
+        }
+    }
+    let n = i - from;
+    if room < w + n {
+        return Pass::Unknown;
+    }
+    copy_rows(to, w, rows, from, n);
+    Pass::Made(i, w + n)
 }
 
 // A new row, the i-th of a table.

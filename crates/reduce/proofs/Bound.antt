@@ -4,16 +4,15 @@ use mathlib.Core.Path.{_≡_, refl, ap, sym, _∙_}
 use mathlib.Core.Bool.{Bool, true, false, cond}
 use mathlib.Core.List.{List, [], _∷_, _++_}
 use native.Mathlib.Omega.{arith}
-use native.Mathlib.Decide.{decLt, ℕ-discrete}
+use native.Mathlib.Decide.{ℕ-discrete}
 use native.Mathlib.Numerals.{add-one}
 use lib.Dec.{eqb}
 use lib.ListN.{length, getD, take, set}
 use lib.Seq.{take-suc, take-suc-set, getD-set-same, getD-set-other}
 use borrow.Author.Tests.{ne-eqb}
-use Rattle.meaning.specs.Types.{Str, File, Truth, ntv, frn, Param, Form, absent, base, fTuple, fFun, types, params, parts, elemOf, formNo, result, formRow, formOf}
+use Rattle.meaning.specs.Types.{Str, File, Truth, ntv, frn, Param, Form, absent, base, fTuple, fFun, types, parts, elemOf, formNo, result, formRow, formOf}
 use Rattle.layout.specs.Rows.{typeTable}
 use Rattle.rules.specs.Forms.{says, forms}
-use Rattle.rules.proofs.ByRule.{params-few, params-high, params-all}
 
 pub none-bound : (ps : List Param) → length ps ≡ 0 → ps ≡ []
 none-bound [] e = refl
@@ -24,17 +23,6 @@ some-bound [] e = absurd (e refl)
 some-bound (p ∷ ps) e = omega arith
 
 module _ (s : List ℕ) (t : ℕ) where
-  pub params-parts : 0 < length (params (forms s t)) → params (forms s t) ≡ parts (says s t)
-  params-parts h =
-      let f = formNo (says s t) in
-      elim (decLt f 6) [
-        | yes k ↦ absurd (omega (arith, h, ap length (params-few s t f refl k)))
-        | no k ↦ elim (decLt 7 f) [
-          | yes m ↦ absurd (omega (arith, h, ap length (params-high s t f refl m)))
-          | no m ↦ params-all s t f refl (omega arith) (omega arith)
-        ]
-      ]
-
   pub elem-list : formNo (says s t) ≡ 4 → elemOf (forms s t) ≡ result (says s t)
   unfolding formOf formRow elemOf says
   elem-list e = rw e refl

@@ -48,7 +48,7 @@ module _ (form : ℕ → Form) (u : ℕ) (c : Tree) where
   unfolding tie quiet
   tie-stays ps e = rw e refl
 
-  tie-goes : (ps : List Param) → (ps ≡ [] → ⊥) → (p : Param) × (take 1 (names ps) ≡ p .name ∷ [])
+  pub tie-goes : (ps : List Param) → (ps ≡ [] → ⊥) → (p : Param) × (take 1 (names ps) ≡ p .name ∷ [])
       × (quiet (tie form u c ps) ≡ some (node lambda u (more (put form (assign (p ∷ []) (more (node fix u (more c end)) end)) (kid 1 c)) end)))
   unfolding tie quiet names
   tie-goes [] e = absurd (e refl)
@@ -60,7 +60,7 @@ lambda-rows u t = rw (append-nil (flat t)) refl
 
 -- By rows --------------------------------------------------------------------------------------------------------
 
-module _ (l : List (List ℕ)) (exact : map raw (map rowOf l) ≡ l) (one : size (treeOf (map rowOf l)) ≡ length l) where
+module _ (l : List (List ℕ)) (exact : map raw (map rowOf l) ≡ l) (inside : size (treeOf (map rowOf l)) ≤ length l) where
   abbrev L : List Row
   L = map rowOf l
 
@@ -82,29 +82,38 @@ module _ (l : List (List ℕ)) (exact : map raw (map rowOf l) ≡ l) (one : size
     unfolding headFrom
     head-let = ap (λ (k : ℕ). headFrom k (N 0) (W 0)) e
 
-    let-size : length l ≡ 1 + size (treeAt L 1) + size (treeAt L (1 + size (treeAt L 1)))
+    let-size : size (treeOf L) ≡ 1 + size (treeAt L 1) + size (treeAt L (1 + size (treeAt L 1)))
     let-size =
-        omega (arith, root-size l one (bind (W 0)) head-let, grove-size L 1 1, grove-size L (1 + size (treeAt L 1)) 0, grove-none L (1 + size (treeAt L 1) + size (treeAt L (1 + size (treeAt L 1)))))
+        omega (arith, root-size l inside (bind (W 0)) head-let, grove-size L 1 1, grove-size L (1 + size (treeAt L 1)) 0, grove-none L (1 + size (treeAt L 1) + size (treeAt L (1 + size (treeAt L 1)))))
 
     pub bound-in : 1 + size (treeAt L 1) ≤ length l
     bound-in = omega (arith, let-size)
 
     module _ (body : ℕ) (g : body ≡ 1 + size (treeAt L 1)) where
-      pub let-whole : body + size (treeAt L body) ≡ length l
+      pub let-whole : body + size (treeAt L body) ≡ size (treeOf L)
       let-whole = ap (λ (x : ℕ). x + size (treeAt L x)) g ∙ sym let-size
 
+      let-goes-to : (form : ℕ → Form) → ruleOf form (treeOf L) ≡ some (put form (assign (record { name = W 0; type = tyOf (treeAt L 1) } ∷ []) (more (treeAt L 1) end)) (treeAt L body))
+      unfolding ruleOf contract
+      let-goes-to form =
+          let a = treeAt L 1 in
+          let t : treeOf L ≡ node (bind (W 0)) (U 0) (more a (more (treeAt L body) end)) = root l inside (bind (W 0)) head-let ∙ ap (node (bind (W 0)) (U 0)) (grove-two L 1) ∙ ap (λ (x : ℕ). node (bind (W 0)) (U 0) (more a (more (treeAt L x) end))) (sym g) in
+          ap (ruleOf form) t ∙ let-goes form (W 0) a (treeAt L body)
+
       pub let-rows : (form : ℕ → Form) (bs : List ℕ) → ruleRows form l ≡ some (putRows form l body (W 0 ∷ []) (1 ∷ body ∷ bs))
-      unfolding ruleOf contract rowsOf names tree
+      unfolding rowsOf names tree
       let-rows form bs =
           let a = treeAt L 1 in
           let p : Param = record { name = W 0; type = tyOf a } in
-          let t : treeOf L ≡ node (bind (W 0)) (U 0) (more a (more (treeAt L body) end)) = root l one (bind (W 0)) head-let ∙ ap (node (bind (W 0)) (U 0)) (grove-two L 1) ∙ ap (λ (x : ℕ). node (bind (W 0)) (U 0) (more a (more (treeAt L x) end))) (sym g) in
           let r = rows-put l exact {n = 1} form body (1 ∷ body ∷ bs) (p ∷ []) (more a end) (omega (arith, let-whole)) (λ j h. bound-stands j h) in
-          ap (λ (x : Tree). rowsOf (ruleOf form x)) t ∙ ap rowsOf (let-goes form (W 0) a (treeAt L body)) ∙ ap some (sym r)
+          ap rowsOf (let-goes-to form) ∙ ap some (sym r)
         where
           bound-stands : (j : ℕ) → j < 1 → standing l (getD (1 ∷ body ∷ bs) j 0) (getD (1 ∷ body ∷ bs) (j + 1) 0) ≡ map raw (flat (tree (more (treeAt L 1) end) j))
           bound-stands zero h = stands l exact 1 body g (omega (arith, let-whole))
           bound-stands (suc j) h = absurd (omega arith)
+
+    pub let-goes-at : (form : ℕ → Form) → ruleOf form (treeOf L) ≡ some (put form (assign (record { name = W 0; type = tyOf (treeAt L 1) } ∷ []) (more (treeAt L 1) end)) (treeAt L (1 + size (treeAt L 1))))
+    let-goes-at form = let-goes-to (1 + size (treeAt L 1)) refl form
 
   -- Fix
   module _ (e : K 0 ≡ 11) where
@@ -113,14 +122,14 @@ module _ (l : List (List ℕ)) (exact : map raw (map rowOf l) ≡ l) (one : size
     head-fix = ap (λ (k : ℕ). headFrom k (N 0) (W 0)) e
 
     fix-made : treeOf L ≡ node fix (U 0) (more (treeAt L 1) end)
-    fix-made = root l one fix head-fix ∙ ap (node fix (U 0)) (grove-one L 1)
+    fix-made = root l inside fix head-fix ∙ ap (node fix (U 0)) (grove-one L 1)
 
     fix-rule : (form : ℕ → Form) → ruleOf form (treeOf L) ≡ quiet (fixStep form (U 0) (treeAt L 1))
     unfolding ruleOf contract
     fix-rule form = ap (ruleOf form) fix-made
 
-    fix-size : length l ≡ 1 + size (treeAt L 1)
-    fix-size = omega (arith, root-size l one fix head-fix, grove-size L 1 0, grove-none L (1 + size (treeAt L 1)))
+    fix-size : size (treeOf L) ≡ 1 + size (treeAt L 1)
+    fix-size = omega (arith, root-size l inside fix head-fix, grove-size L 1 0, grove-none L (1 + size (treeAt L 1)))
 
     pub fix-more : 1 < length l
     fix-more = omega (arith, fix-size, size-some (treeAt L 1))
@@ -137,7 +146,7 @@ module _ (l : List (List ℕ)) (exact : map raw (map rowOf l) ≡ l) (one : size
       function-made : treeAt L 1 ≡ node lambda (U 1) (more (treeAt L 2) end)
       function-made = made-as l 1 fix-more lambda head-lambda ∙ ap (node lambda (U 1)) (grove-one L 2)
 
-      tied : (form : ℕ → Form) → ruleOf form (treeOf L) ≡ quiet (tie form (U 0) (treeAt L 1) (params (form (U 1))))
+      pub tied : (form : ℕ → Form) → ruleOf form (treeOf L) ≡ quiet (tie form (U 0) (treeAt L 1) (params (form (U 1))))
       tied form =
           fix-rule form
           ∙ fix-ties form (U 0) (treeAt L 1) (kind-is l 1 fix-more 6 (omega arith) (omega arith) ∙ eq-eqb (K 1) 6 q)
@@ -151,10 +160,10 @@ module _ (l : List (List ℕ)) (exact : map raw (map rowOf l) ≡ l) (one : size
       unfolding Plans
       plan-tie form z = (e, q, z)
 
-      pub tie-whole : 2 + size (treeAt L 2) ≡ length l
+      pub tie-whole : 2 + size (treeAt L 2) ≡ size (treeOf L)
       tie-whole = omega (arith, fix-size, sized-as l 1 fix-more lambda head-lambda, grove-size L 2 0, grove-none L (2 + size (treeAt L 2)))
 
-      pub tie-rows : (form : ℕ → Form) (x n : ℕ) (bs : List ℕ) → take 1 (names (params (form (U 1)))) ≡ x ∷ [] → (params (form (U 1)) ≡ [] → ⊥) → n ≡ length l
+      pub tie-rows : (form : ℕ → Form) (x n : ℕ) (bs : List ℕ) → take 1 (names (params (form (U 1)))) ≡ x ∷ [] → (params (form (U 1)) ≡ [] → ⊥) → n ≡ size (treeOf L)
           → ruleRows form l ≡ some ((6 ∷ 0 ∷ U 0 ∷ 0 ∷ []) ∷ putRows form l 2 (x ∷ []) (0 ∷ n ∷ bs))
       unfolding rowsOf names tree kid child nth swap
       tie-rows form x n bs nm some-name ln =
@@ -171,7 +180,7 @@ module _ (l : List (List ℕ)) (exact : map raw (map rowOf l) ≡ l) (one : size
         where
           fix-stands : (j : ℕ) → j < 1 → standing l (getD (0 ∷ n ∷ bs) j 0) (getD (0 ∷ n ∷ bs) (j + 1) 0) ≡ map raw (flat (tree (more (treeOf L) end) j))
           fix-stands zero h =
-              stands l exact 0 n (omega (arith, ln, one, ap size (tree-at-zero L))) (omega (arith, ln)) ∙ ap (λ (t : Tree). map raw (flat t)) (tree-at-zero L)
+              stands l exact 0 n (omega (arith, ln, ap size (tree-at-zero L))) (omega (arith, ln)) ∙ ap (λ (t : Tree). map raw (flat t)) (tree-at-zero L)
           fix-stands (suc j) h = absurd (omega arith)
 
   -- A call of a native function
@@ -184,14 +193,14 @@ module _ (l : List (List ℕ)) (exact : map raw (map rowOf l) ≡ l) (one : size
     F = 1 + size (treeAt L 1)
 
     pub call-made : treeOf L ≡ node (apply (N 0)) (U 0) (more (treeAt L 1) (grove L F (N 0)))
-    call-made = root l one (apply (N 0)) head-call ∙ ap (node (apply (N 0)) (U 0)) (grove-more L 1 (N 0))
+    call-made = root l inside (apply (N 0)) head-call ∙ ap (node (apply (N 0)) (U 0)) (grove-more L 1 (N 0))
 
     pub call-rule : (form : ℕ → Form) → ruleOf form (treeOf L) ≡ quiet (applyStep form 0 (U 0) (treeAt L 1) (grove L F (N 0)))
     unfolding ruleOf contract
     call-rule form = ap (ruleOf form) call-made
 
-    pub call-size : F + sizes (grove L F (N 0)) ≡ length l
-    call-size = omega (arith, root-size l one (apply (N 0)) head-call, grove-size L 1 (N 0))
+    pub call-size : F + sizes (grove L F (N 0)) ≡ size (treeOf L)
+    call-size = omega (arith, root-size l inside (apply (N 0)) head-call, grove-size L 1 (N 0))
 
     pub call-more : 1 < length l
     call-more = omega (arith, call-size, size-some (treeAt L 1))
@@ -211,7 +220,7 @@ module _ (l : List (List ℕ)) (exact : map raw (map rowOf l) ≡ l) (one : size
       call-whole = omega (arith, called-size, call-size)
 
       module _ (first : ℕ) (g : first ≡ F) where
-        pub args-whole : first + sizes (grove L first (N 0)) ≡ length l
+        pub args-whole : first + sizes (grove L first (N 0)) ≡ size (treeOf L)
         args-whole = ap (λ (x : ℕ). x + sizes (grove L x (N 0))) g ∙ call-size
 
         -- where each argument begins
@@ -263,11 +272,11 @@ take-least n m xs e = elim (decLt m (length xs)) [
   | no h ↦ take-all n xs (omega (arith, e, h)) ∙ sym (take-all m xs (omega (arith, h)))
 ]
 
-module _ (l : List (List ℕ)) (exact : map raw (map rowOf l) ≡ l) (one : size (treeOf (map rowOf l)) ≡ length l) (short : length l ≤ 2048) where
+module _ (l : List (List ℕ)) (exact : map raw (map rowOf l) ≡ l) (inside : size (treeOf (map rowOf l)) ≤ length l) (short : length l ≤ 2048) where
   pub let-puts : (e : kindNo (rowNo l 0) ≡ 19) (body : ℕ) → body ≡ 1 + size (treeAt (map rowOf l) 1) → (form : ℕ → Form) (w b : ℕ) (ns bs : List ℕ) → w ≡ wordNo (rowNo l 0) → b ≡ body
       → PutsRule form l [] (record { body = body; count = 1; names = w ∷ ns; bounds = 1 ∷ b ∷ bs })
   let-puts e body g form w b ns bs p q =
-      let whole = let-whole l exact one e body g in
+      let whole = let-whole l exact inside e body g in
       record {
         few = omega arith;
         ready = record {
@@ -277,17 +286,17 @@ module _ (l : List (List ℕ)) (exact : map raw (map rowOf l) ≡ l) (one : size
           bounded = omega arith;
           within = λ j h. bounds-in j h;
         };
-        rows = rw (p, q) (let-rows l exact one e body g form bs);
+        rows = rw (p, q) (let-rows l exact inside e body g form bs);
       }
     where
       bounds-in : (j : ℕ) → j < 1 → (getD (1 ∷ b ∷ bs) j 0 ≤ getD (1 ∷ b ∷ bs) (j + 1) 0) × (getD (1 ∷ b ∷ bs) (j + 1) 0 ≤ length l)
-      bounds-in zero h = (omega (arith, g, q), omega (arith, q, let-whole l exact one e body g))
+      bounds-in zero h = (omega (arith, g, q), omega (arith, q, let-whole l exact inside e body g))
       bounds-in (suc j) h = absurd (omega arith)
 
-  pub tie-puts : (form : ℕ → Form) → TiesAt form l → (x n : ℕ) (ns bs : List ℕ) → x ≡ getD (names (params (form (typeNo (rowNo l 1))))) 0 0 → n ≡ length l
+  pub tie-puts : (form : ℕ → Form) → TiesAt form l → (x n : ℕ) (ns bs : List ℕ) → x ≡ getD (names (params (form (typeNo (rowNo l 1))))) 0 0 → n ≡ size (treeOf (map rowOf l))
       → PutsRule form l (tieRow l ∷ []) (record { body = 2; count = 1; names = x ∷ ns; bounds = 0 ∷ n ∷ bs })
   tie-puts form (e, q, z) x n ns bs p r =
-      let whole = tie-whole l exact one e q in
+      let whole = tie-whole l exact inside e q in
       record {
         few = omega arith;
         ready = record {
@@ -297,7 +306,7 @@ module _ (l : List (List ℕ)) (exact : map raw (map rowOf l) ≡ l) (one : size
           bounded = omega arith;
           within = λ j h. bounds-in j h;
         };
-        rows = tie-rows l exact one e q form x n bs (first-name (params (form (typeNo (rowNo l 1)))) x z p) z r;
+        rows = tie-rows l exact inside e q form x n bs (first-name (params (form (typeNo (rowNo l 1)))) x z p) z r;
       }
     where
       bounds-in : (j : ℕ) → j < 1 → (getD (0 ∷ n ∷ bs) j 0 ≤ getD (0 ∷ n ∷ bs) (j + 1) 0) × (getD (0 ∷ n ∷ bs) (j + 1) 0 ≤ length l)
@@ -316,15 +325,15 @@ module _ (l : List (List ℕ)) (exact : map raw (map rowOf l) ≡ l) (one : size
       let lt : length (take m (names ps)) ≡ n = length-take m (names ps) ∙ omega (arith, ln, names-length ps) in
       let all : take n ns ≡ take m (names ps) = nm ∙ same in
       let at : (j : ℕ) → j ≤ length (take m (names ps)) → getD bs j 0 ≡ first + sizes (grove (map rowOf l) first j) = λ j h. begins j (omega (arith, h, lt)) in
-      let within = call-within l exact one e q first g form bs at (omega (arith, lt, ln)) in
+      let within = call-within l exact inside e q first g form bs at (omega (arith, lt, ln)) in
       record {
         few = omega (arith, few, ls);
         ready = record {
           few = short;
-          whole = call-whole l exact one e q;
+          whole = call-whole l exact inside e q;
           eight = rw all (omega (arith, lt, few));
           bounded = rw all (omega (arith, lt, few, lb));
           within = λ j h. within j (omega (arith, h, ap length all));
         };
-        rows = rw all (call-rows l exact one e q first g form bs at (omega (arith, lt, ln)));
+        rows = rw all (call-rows l exact inside e q first g form bs at (omega (arith, lt, ln)));
       }

@@ -17,12 +17,12 @@ use Rattle.put.proofs.Meets.{stands}
 use Rattle.reduce.specs.Rule.{quiet, ruleOf}
 use Rattle.reduce.specs.Plan.{rowsOf, rowNo, pairRows, Plans}
 use Rattle.reduce.specs.declared.Plan.the-variants.{Stays, Part, Leaf, Pair}
-use Rattle.reduce.proofs.Roots.{grove-one, grove-two, grove-three, nth-grove, nth-none, nth-zero, grove-part, kind-is, made-as, sized-as, root, root-size}
+use Rattle.reduce.proofs.Roots.{whole-in, grove-one, grove-two, grove-three, nth-grove, nth-none, nth-zero, grove-part, kind-is, made-as, sized-as, root, root-size}
 
 -- Steps by tests -------------------------------------------------------------------------------------------------
 
 module _ (c a b : Tree) where
-  if-then : is 3 c ≡ true → quiet (ifStep c a b) ≡ some a
+  pub if-then : is 3 c ≡ true → quiet (ifStep c a b) ≡ some a
   unfolding ifStep quiet
   if-then e = rw e refl
 
@@ -130,7 +130,7 @@ module _ (l : List (List ℕ)) (exact : map raw (map rowOf l) ≡ l) (one : size
   plan-rest form a b c d e f g =
       let h = headFrom (K 0) (N 0) (W 0) in
       let t : (x : ℕ) → 2 ≤ x → x ≤ 19 → (K 0 ≡ x → ⊥) → eqb (code h) x ≡ false = λ x p q r. kind-told (K 0) (N 0) (W 0) x p q ∙ ne-eqb (K 0) x r in
-      ap (λ (t : Tree). rowsOf (ruleOf form t)) (root l one h refl)
+      ap (λ (t : Tree). rowsOf (ruleOf form t)) (root l (whole-in one) h refl)
       ∙ ap rowsOf (rest-stays form (U 0) h (grove L 1 (arity h)) (t 8 (omega arith) (omega arith) a) (t 10 (omega arith) (omega arith) b) (t 11 (omega arith) (omega arith) c) (t 14 (omega arith) (omega arith) d) (t 17 (omega arith) (omega arith) e) (t 18 (omega arith) (omega arith) f) (t 19 (omega arith) (omega arith) g))
 
   -- If
@@ -144,11 +144,11 @@ module _ (l : List (List ℕ)) (exact : map raw (map rowOf l) ≡ l) (one : size
 
     if-rule : (form : ℕ → Form) → ruleOf form (treeOf L) ≡ quiet (ifStep (treeAt L 1) (treeAt L A) (treeAt L (A + size (treeAt L A))))
     unfolding ruleOf contract
-    if-rule form = ap (ruleOf form) (root l one ite head-if ∙ ap (node ite (U 0)) (grove-three L 1))
+    if-rule form = ap (ruleOf form) (root l (whole-in one) ite head-if ∙ ap (node ite (U 0)) (grove-three L 1))
 
     if-size : length l ≡ A + size (treeAt L A) + size (treeAt L (A + size (treeAt L A)))
     if-size =
-        omega (arith, root-size l one ite head-if, grove-size L 1 2, grove-size L A 1, grove-size L (A + size (treeAt L A)) 0, grove-none L (A + size (treeAt L A) + size (treeAt L (A + size (treeAt L A)))))
+        omega (arith, root-size l (whole-in one) ite head-if, grove-size L 1 2, grove-size L A 1, grove-size L (A + size (treeAt L A)) 0, grove-none L (A + size (treeAt L A) + size (treeAt L (A + size (treeAt L A)))))
 
     pub if-more : 1 < length l
     if-more = omega (arith, if-size, size-some (treeAt L 1), size-some (treeAt L A))
@@ -200,7 +200,7 @@ module _ (l : List (List ℕ)) (exact : map raw (map rowOf l) ≡ l) (one : size
   -- rows with one tree
   module _ (g : Head) (a : arity g ≡ 1) (e : headFrom (K 0) (N 0) (W 0) ≡ g) where
     one-size : length l ≡ 1 + size (treeAt L 1)
-    one-size = omega (arith, root-size l one g e, ap (λ (n : ℕ). sizes (grove L 1 n)) a, grove-size L 1 0, grove-none L (1 + size (treeAt L 1)))
+    one-size = omega (arith, root-size l (whole-in one) g e, ap (λ (n : ℕ). sizes (grove L 1 n)) a, grove-size L 1 0, grove-none L (1 + size (treeAt L 1)))
 
     one-more : 1 < length l
     one-more = omega (arith, one-size, size-some (treeAt L 1))
@@ -213,7 +213,7 @@ module _ (l : List (List ℕ)) (exact : map raw (map rowOf l) ≡ l) (one : size
 
     isnil-rule : (form : ℕ → Form) → ruleOf form (treeOf L) ≡ quiet (isnilStep (U 0) (treeAt L 1))
     unfolding ruleOf contract
-    isnil-rule form = ap (ruleOf form) (root l one isnil head-isnil ∙ ap (node isnil (U 0)) (grove-one L 1))
+    isnil-rule form = ap (ruleOf form) (root l (whole-in one) isnil head-isnil ∙ ap (node isnil (U 0)) (grove-one L 1))
 
     pub isnil-more : 1 < length l
     isnil-more = one-more isnil refl head-isnil
@@ -240,7 +240,7 @@ module _ (l : List (List ℕ)) (exact : map raw (map rowOf l) ≡ l) (one : size
 
     project-rule : (form : ℕ → Form) → ruleOf form (treeOf L) ≡ quiet (projectStep (N 0) (treeAt L 1))
     unfolding ruleOf contract
-    project-rule form = ap (ruleOf form) (root l one (project (N 0)) head-project ∙ ap (node (project (N 0)) (U 0)) (grove-one L 1))
+    project-rule form = ap (ruleOf form) (root l (whole-in one) (project (N 0)) head-project ∙ ap (node (project (N 0)) (U 0)) (grove-one L 1))
 
     pub project-more : 1 < length l
     project-more = one-more (project (N 0)) refl head-project
@@ -308,7 +308,7 @@ module _ (l : List (List ℕ)) (exact : map raw (map rowOf l) ≡ l) (one : size
 
     lproject-rule : (form : ℕ → Form) → ruleOf form (treeOf L) ≡ quiet (lprojectStep form (N 0) (U 0) (treeAt L 1))
     unfolding ruleOf contract
-    lproject-rule form = ap (ruleOf form) (root l one (lproject (N 0)) head-lproject ∙ ap (node (lproject (N 0)) (U 0)) (grove-one L 1))
+    lproject-rule form = ap (ruleOf form) (root l (whole-in one) (lproject (N 0)) head-lproject ∙ ap (node (lproject (N 0)) (U 0)) (grove-one L 1))
 
     pub lproject-more : 1 < length l
     lproject-more = one-more (lproject (N 0)) refl head-lproject

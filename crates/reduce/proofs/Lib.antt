@@ -8,3 +8,4 @@ pub mod Zipped
 pub mod Parted
 pub mod Filled
 pub mod Told
+pub mod AtOnce

@@ -7,6 +7,7 @@ use mathlib.Core.Option.{Option, none, some}
 use lib.Dec.{eqb}
 use lib.ListN.{length, getD, length-map}
 use Rattle.layout.specs.Rows.{rowTable, termRows}
+use Rattle.layout.proofs.Tables.{row-table-length}
 use Rattle.meaning.specs.Bytes.{_∧ᵇ_, within}
 use Rattle.meaning.specs.Types.{Form}
 use Rattle.meaning.specs.Terms.{Head, lit, var, lambda, foreign, apply, future, ite, fix, nil, cons, isnil, zip, tuple, project, lproject, bind, arity, code, Tree, Forest, node, end, more, headOf, is, flat, size, raw, rowOf, treeOf}
@@ -21,7 +22,7 @@ use Rattle.meaning.specs.Records.{version}
 use Rattle.meaning.proofs.Trees.EachRow.{Every}
 use Rattle.meaning.proofs.Bytes.RowTables.{rows-raw, legal, in-range}
 use Rattle.meaning.proofs.Trees.Parse.{length-flat, tree-of-flat}
-use Rattle.reduce.specs.Rule.{quiet, ruleOf, Redex}
+use Rattle.reduce.specs.Rule.{quiet, ruleOf, Redex, Front}
 
 -- a call of a foreign function: what sends, if anything does
 abbrev pub calls : (h : Head) → Forest (arity h) → Bool
@@ -165,3 +166,7 @@ module _ (rows : List ℕ) (t : Tree) (e : rowTable rows ≡ map raw (flat t)) w
         name = let-named count d;
         args = args-few count d;
       }
+
+-- rows that are one tree begin with it
+pub redex-front : (rows : List ℕ) → Redex rows → Front rows
+redex-front rows R = record { few = omega (arith, R .few, row-table-length rows); exact = R .exact; inside = omega (arith, R .one); name = R .name }

@@ -14,6 +14,10 @@ use Rattle.terms.proofs.ByNumber.{kind-told}
 use Rattle.put.proofs.Passing.{tree}
 use Rattle.reduce.specs.Plan.{rowNo}
 
+-- rows that are one tree have it within them
+pub whole-in : {a b : ℕ} → a ≡ b → a ≤ b
+whole-in e = omega (arith, e)
+
 grove-zero : (l : List Row) (i : ℕ) → grove l i 0 ≡ end
 unfolding grove kids
 grove-zero l i = refl
@@ -124,14 +128,14 @@ module _ (l : List (List ℕ)) where
     unfolding size
     sized-as g e = ap size (made-as g e) ∙ omega arith
 
-  -- the whole
-  module _ (one : size (treeOf L) ≡ length l) where
+  -- the first tree, which ends within the rows
+  module _ (inside : size (treeOf L) ≤ length l) where
     pub some-row : 0 < length l
-    some-row = omega (arith, size-some (treeOf L))
+    some-row = omega (arith, inside, size-some (treeOf L))
 
     module _ (g : Head) (e : headFrom (kindNo (rowNo l 0)) (nNo (rowNo l 0)) (wordNo (rowNo l 0)) ≡ g) where
       pub root : treeOf L ≡ node g (typeNo (rowNo l 0)) (grove L 1 (arity g))
       root = sym (tree-at-zero L) ∙ made-as 0 some-row g e
 
-      pub root-size : length l ≡ 1 + sizes (grove L 1 (arity g))
-      root-size = sym one ∙ ap size (sym (tree-at-zero L)) ∙ sized-as 0 some-row g e
+      pub root-size : size (treeOf L) ≡ 1 + sizes (grove L 1 (arity g))
+      root-size = ap size (sym (tree-at-zero L)) ∙ sized-as 0 some-row g e

@@ -19,7 +19,7 @@ use Rattle.reduce.specs.Rule.{quiet, ruleOf}
 use Rattle.reduce.specs.Plan.{rowsOf, rowNo, ruleRows, halfRows, zipRows, ZipsAt, Plans}
 use Rattle.reduce.specs.declared.Plan.the-variants.{Stays, Leaf}
 use Rattle.reduce.proofs.Quiet.{send-quiet}
-use Rattle.reduce.proofs.Roots.{grove-one, kind-is, made-as, sized-as}
+use Rattle.reduce.proofs.Roots.{whole-in, grove-one, kind-is, made-as, sized-as}
 use Rattle.reduce.proofs.Given.{call-rule, call-size, call-more}
 
 -- Steps by tests -------------------------------------------------------------------------------------------------
@@ -84,12 +84,12 @@ module _ (l : List (List ℕ)) (exact : map raw (map rowOf l) ≡ l) (one : size
   W i = wordNo (rowNo l i)
 
   one-is : (x : ℕ) → 2 ≤ x → x ≤ 19 → is x (treeAt L 1) ≡ eqb (K 1) x
-  one-is x a b = kind-is l 1 (call-more l exact one e) x a b
+  one-is x a b = kind-is l 1 (call-more l exact (whole-in one) e) x a b
 
   pub plan-other-call : (form : ℕ → Form) → (K 1 ≡ 6 → ⊥) → (K 1 ≡ 15 → ⊥) → Plans form l Stays
   unfolding Plans rowsOf
   plan-other-call form p q =
-      ap rowsOf (call-rule l exact one e form ∙ call-stays form (U 0) (treeAt L 1) (grove L (1 + size (treeAt L 1)) (N 0)) (one-is 6 (omega arith) (omega arith) ∙ ne-eqb (K 1) 6 p) (one-is 15 (omega arith) (omega arith) ∙ ne-eqb (K 1) 15 q))
+      ap rowsOf (call-rule l exact (whole-in one) e form ∙ call-stays form (U 0) (treeAt L 1) (grove L (1 + size (treeAt L 1)) (N 0)) (one-is 6 (omega arith) (omega arith) ∙ ne-eqb (K 1) 6 p) (one-is 15 (omega arith) (omega arith) ∙ ne-eqb (K 1) 15 q))
 
   module _ (q : K 1 ≡ 15) (first : ℕ) (g : first ≡ 1 + size (treeAt L 1)) where
     head-zip : headFrom (K 1) (N 1) (W 1) ≡ zip (N 1)
@@ -97,18 +97,18 @@ module _ (l : List (List ℕ)) (exact : map raw (map rowOf l) ≡ l) (one : size
     head-zip = ap (λ (k : ℕ). headFrom k (N 1) (W 1)) q
 
     zip-made : treeAt L 1 ≡ node (zip (N 1)) (U 1) (more (treeAt L 2) end)
-    zip-made = made-as l 1 (call-more l exact one e) (zip (N 1)) head-zip ∙ ap (node (zip (N 1)) (U 1)) (grove-one L 2)
+    zip-made = made-as l 1 (call-more l exact (whole-in one) e) (zip (N 1)) head-zip ∙ ap (node (zip (N 1)) (U 1)) (grove-one L 2)
 
     zip-size : first ≡ 2 + size (treeAt L 2)
-    zip-size = omega (arith, g, sized-as l 1 (call-more l exact one e) (zip (N 1)) head-zip, grove-size L 2 0, grove-none L (2 + size (treeAt L 2)))
+    zip-size = omega (arith, g, sized-as l 1 (call-more l exact (whole-in one) e) (zip (N 1)) head-zip, grove-size L 2 0, grove-none L (2 + size (treeAt L 2)))
 
     pub zip-whole : first + sizes (grove L first (N 0)) ≡ length l
-    zip-whole = ap (λ (x : ℕ). x + sizes (grove L x (N 0))) g ∙ call-size l exact one e
+    zip-whole = ap (λ (x : ℕ). x + sizes (grove L x (N 0))) g ∙ call-size l exact (whole-in one) e ∙ one
 
     zip-rule : (form : ℕ → Form) → ruleOf form (treeOf L) ≡ quiet (zipStep form (U 0) (N 1) (treeAt L 1) (grove L first (N 0)))
     unfolding headOf nOf
     zip-rule form =
-        call-rule l exact one e form
+        call-rule l exact (whole-in one) e form
         ∙ call-zips form (U 0) (treeAt L 1) (grove L (1 + size (treeAt L 1)) (N 0)) (one-is 6 (omega arith) (omega arith) ∙ ne-eqb (K 1) 6 (λ p. omega (arith, p, q))) (one-is 7 (omega arith) (omega arith) ∙ ne-eqb (K 1) 7 (λ p. omega (arith, p, q))) (one-is 15 (omega arith) (omega arith) ∙ eq-eqb (K 1) 15 q)
         ∙ ap (λ (x : ℕ). quiet (zipStep form (U 0) (nOf (headOf (treeAt L 1))) (treeAt L 1) (grove L x (N 0)))) (sym g)
         ∙ ap (λ (t : Tree). quiet (zipStep form (U 0) (nOf (headOf t)) (treeAt L 1) (grove L first (N 0)))) zip-made

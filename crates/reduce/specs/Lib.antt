@@ -3,3 +3,4 @@ pub mod Plan
 pub mod Given
 pub mod Halves
 pub mod Behind
+pub mod Once

@@ -34,6 +34,14 @@ abbrev pub told : Outcome → Option ℕ
 told Stays = none
 told (Goes n) = some n
 
+-- the rows begin with a tree and may go on behind it, each row the numbers of its head, and are few
+pub record Front (rows : List ℕ) : Type 0 where
+  pub few : length (rowTable rows) ≤ 2048
+  pub exact : map raw (termRows rows) ≡ rowTable rows
+  pub inside : size (treeOf (termRows rows)) ≤ length (rowTable rows)
+  -- a let's name is in range
+  pub name : kindNo (getD (rowTable rows) 0 []) ≡ 19 → wordNo (getD (rowTable rows) 0 []) ≤ 65535
+
 -- the rows are those of one tree, each the numbers of its head, and few
 pub record Redex (rows : List ℕ) : Type 0 where
   pub few : length rows ≤ 16384

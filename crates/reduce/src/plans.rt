@@ -89,7 +89,7 @@ pub fn plan_fix(types: &[u8], rows: &[u8]) -> Plan
     if k != 6 {
         return Plan::Stays;
     }
-    if puts::param_count(types, c.ty) == 0 {
+    if put::param_count(types, c.ty) == 0 {
         return Plan::Stays;
     }
     Plan::Tie

@@ -1,6 +1,7 @@
 // Rules that put arguments for names: let, a call of a native function, fix.
 use crate::places;
 use layout::Row;
+use put::Pass;
 ghost use mathlib.Core.Path.{_≡_};
 ghost use mathlib.Core.List.{[], _∷_, map};
 ghost use Prim.Native.Nat.{ℕ, _+_, _*_, _-_, _≤_, _<_, min};
@@ -8,33 +9,11 @@ ghost use lib.ListN.{length, getD, take};
 ghost use mathlib.Core.Option.{some};
 ghost use Rattle.layout.specs.Rows.{numbers, typeTable, rowTable, termRows};
 ghost use Rattle.meaning.specs.Types.{Form, formOf, params, names as namesOf, elemOf};
-ghost use Rattle.meaning.specs.Terms.{rowOf, is, sizes, treeOf, grove};
-ghost use Rattle.reduce.specs.Rule.{ruleOf, sizeIf, rowsIf, Redex};
+ghost use Rattle.meaning.specs.Terms.{rowOf, is, size, sizes, treeOf, grove};
+ghost use Rattle.reduce.specs.Rule.{ruleOf, sizeIf, rowsIf, Redex, Front};
 ghost use Rattle.reduce.specs.Plan.{LetAt, CallsAt, TiesAt};
-ghost use Rattle.put.specs.Put.{Ready, putRows};
-ghost use Rattle.reduce.specs.Given.{tieRow, PutsRule};
-
-// How many names a function of type t binds.
-pub fn param_count(types: &[u8], t: u16) -> usize
-    ensures { λ n. ⌜ (n ≡ length (params (formOf (typeTable (now (types .entry))) t))) × (n ≤ 8) ⌝ }
-{
-    let f = rules::forms::form_of(types, t);
-    if f < 6 {
-        return 0;
-    }
-    if 7 < f {
-        return 0;
-    }
-    rules::forms::parts_of(types, t)
-}
-
-// The k-th of them, counted from 0.
-pub fn param_name(types: &[u8], t: u16, k: usize) -> u16
-    requires { ⌜ k < length (params (formOf (typeTable (now types)) t)) ⌝ }
-    ensures { λ x. ⌜ x ≡ getD (namesOf (params (formOf (typeTable (now (types .entry))) t))) k 0 ⌝ }
-{
-    rules::forms::name_of(types, t, k)
-}
+ghost use Rattle.put.specs.Put.{Ready, putRows, Exact, Passes};
+ghost use Rattle.reduce.specs.Given.{tieRow, PutsRule, EndsArgs};
 
 // The element type of a list type.
 pub fn elem_of(types: &[u8], t: u16) -> u16
@@ -57,8 +36,8 @@ pub struct Puts {
 
 // A let's bound term is put for its name.
 pub fn let_puts(rows: &[u8], body: usize) -> Puts
-    requires { ⌜ Redex (now rows) × LetAt (rowTable (now rows)) body ⌝ }
-    ensures { λ p. ⌜ ((form : ℕ → Form) → PutsRule form (rowTable (now (rows .entry))) [] p) ⌝ }
+    requires { ⌜ Front (now rows) × LetAt (rowTable (now rows)) body ⌝ }
+    ensures { λ p. ⌜ ((form : ℕ → Form) → PutsRule form (rowTable (now (rows .entry))) [] p) × (p .body ≡ body) ⌝ }
 {
     let r = places::row_of(rows, 0);
     let w = r.word as u16;
@@ -71,19 +50,19 @@ pub fn let_puts(rows: &[u8], body: usize) -> Puts
     }
 }
 
-// A fix term is put for the first name of its function.
-pub fn tie_puts(types: &[u8], rows: &[u8]) -> Puts
-    requires { ⌜ Redex (now rows) × TiesAt (formOf (typeTable (now types))) (rowTable (now rows)) ⌝ }
+// A fix term of n rows is put for the first name of its function.
+pub fn tie_puts(types: &[u8], rows: &[u8], n: usize) -> Puts
+    requires { ⌜ Front (now rows) × TiesAt (formOf (typeTable (now types))) (rowTable (now rows)) × (n ≡ size (treeOf (termRows (now rows)))) ⌝ }
     ensures { λ p. ⌜ PutsRule (formOf (typeTable (now (types .entry)))) (rowTable (now (rows .entry))) (tieRow (rowTable (now (rows .entry))) ∷ []) p ⌝ }
 {
     let c = places::row_of(rows, 1);
-    let x = param_name(types, c.ty, 0);
-    let n = layout::term_rows(rows) as u16;
+    let x = put::param_name(types, c.ty, 0);
+    let e = n as u16;
     Puts {
         body: 2,
         count: 1,
         names: [x, 0, 0, 0, 0, 0, 0, 0],
-        bounds: [0, n, 0, 0, 0, 0, 0, 0, 0],
+        bounds: [0, e, 0, 0, 0, 0, 0, 0, 0],
     }
 }
 
@@ -94,14 +73,14 @@ pub fn fill_names(types: &[u8], t: u16, n: usize, names: &mut [u16])
 {
     let mut k: usize = 0;
     while k < n {
-        names[k] = param_name(types, t, k);
+        names[k] = put::param_name(types, t, k);
         k += 1;
     }
 }
 
 // Where each of n trees from row `first` on begins, and where the last ends.
 pub fn fill_bounds(rows: &[u8], first: usize, n: usize, bounds: &mut [u16])
-    requires { ⌜ (length (now bounds) ≡ 9) × (length (now rows) ≤ 16384) × (n ≤ 8) × (first + sizes (grove (map rowOf (rowTable (now rows))) first n) ≤ length (rowTable (now rows))) ⌝ }
+    requires { ⌜ (length (now bounds) ≡ 9) × (length (now rows) ≤ 32768) × (n ≤ 8) × (first + sizes (grove (map rowOf (rowTable (now rows))) first n) ≤ length (rowTable (now rows))) ⌝ }
     ensures { λ _. ⌜ ((j : ℕ) → j ≤ n → getD (now (bounds .exit)) j 0 ≡ first + sizes (grove (map rowOf (rowTable (now (rows .entry)))) first j)) ⌝ }
 {
     let mut at = first;
@@ -126,12 +105,12 @@ pub fn least(a: usize, b: usize) -> usize
 
 // A call's arguments are put for the names of the function.
 pub fn call_puts(types: &[u8], rows: &[u8], first: usize) -> Puts
-    requires { ⌜ Redex (now rows) × CallsAt (rowTable (now rows)) first ⌝ }
-    ensures { λ p. ⌜ PutsRule (formOf (typeTable (now (types .entry)))) (rowTable (now (rows .entry))) [] p ⌝ }
+    requires { ⌜ Front (now rows) × CallsAt (rowTable (now rows)) first ⌝ }
+    ensures { λ p. ⌜ PutsRule (formOf (typeTable (now (types .entry)))) (rowTable (now (rows .entry))) [] p × EndsArgs (rowTable (now (rows .entry))) p ⌝ }
 {
     let r = places::row_of(rows, 0);
     let c = places::row_of(rows, 1);
-    let n = least(param_count(types, c.ty), r.n as usize);
+    let n = least(put::param_count(types, c.ty), r.n as usize);
     let mut names = [0u16; 8];
     fill_names(types, c.ty, n, &mut names);
     let mut bounds = [0u16; 9];
@@ -171,7 +150,7 @@ pub fn count_tie(types: &[u8], rows: &[u8]) -> usize
     requires { ⌜ Redex (now rows) × TiesAt (formOf (typeTable (now types))) (rowTable (now rows)) ⌝ }
     ensures { λ n. ⌜ some n ≡ sizeIf (ruleOf (formOf (typeTable (now (types .entry)))) (treeOf (termRows (now (rows .entry))))) ⌝ }
 {
-    let p = tie_puts(types, rows);
+    let p = tie_puts(types, rows, layout::term_rows(rows));
     1 + count_puts(types, rows, p)
 }
 
@@ -181,7 +160,7 @@ pub fn write_tie(types: &[u8], rows: &[u8], to: &mut [u8])
     ensures { λ _. ⌜ rowTable (now (to .exit)) ≡ rowsIf (ruleOf (formOf (typeTable (now (types .entry)))) (treeOf (termRows (now (rows .entry))))) ⌝ }
 {
     let r = places::row_of(rows, 0);
-    let p = tie_puts(types, rows);
+    let p = tie_puts(types, rows, layout::term_rows(rows));
     put::write_row(
         to,
         0,
@@ -193,4 +172,15 @@ pub fn write_tie(types: &[u8], rows: &[u8], to: &mut [u8])
         },
     );
     write_puts(types, rows, p, &mut to[layout::TERM_ROW..]);
+}
+
+// The same rows, in one pass, into a table that may have more room.
+pub fn put_puts(types: &[u8], rows: &[u8], p: Puts, to: &mut [u8]) -> Pass
+    requires { ⌜ (p .count ≤ length (p .names)) × Ready (rowTable (now rows)) (p .body) (take (p .count) (p .names)) (p .bounds) × Exact (rowTable (now rows)) × (length (now to) ≤ 32768) ⌝ }
+    ensures { λ x. ⌜ Passes (formOf (typeTable (now (types .entry)))) (rowTable (now (rows .entry))) (p .body) (take (p .count) (p .names)) (p .bounds) (rowTable (now (to .exit))) x ⌝ }
+{
+    let n = p.count;
+    let names = p.names;
+    let bounds = p.bounds;
+    put::put_once(types, rows, p.body, &names[..n], &bounds, to)
 }

@@ -5,6 +5,7 @@ use Rattle.layout.specs.Rows.{typeTable, rowTable}
 use Rattle.layout.proofs.Tables.{row-table-length}
 use Rattle.meaning.specs.Types.{formOf}
 use Rattle.reduce.specs.Plan.{Plans}
+use Rattle.reduce.proofs.Quiet.{redex-front}
 use Rattle.reduce.proofs.Told.{count-stays, part-rises, count-part, count-leaf, count-pair, let-of, call-of, tie-of, zip-of, count-puts}
 use borrow.Author.Needs.{needs}
 use Rattle.reduce.proofs.count.Statement.{statement}
@@ -80,21 +81,21 @@ let-puts-requires c κs =
     let T = rowTable (s .args .rows .now) in
     let F = formOf (typeTable (s .args .types .now)) in
     let q = subst (Plans F T) (c .before .p4 .given .1) (c .before .before .before .plan-of .ensures) in
-    (s .pre, let-of F T _ q)
+    (redex-front (s .args .rows .now) (s .pre), let-of F T _ q)
 
 count-puts-requires : tie.Need-count-puts-requires
 count-puts-requires c κs =
     let s = c .before .before .before .before .before .before .before in
     let T = rowTable (s .args .rows .now) in
     let F = formOf (typeTable (s .args .types .now)) in
-    (c .let-puts .ensures F .few, c .let-puts .ensures F .ready)
+    (c .let-puts .ensures .0 F .few, c .let-puts .ensures .0 F .ready)
 
 returns-5 : tie.Need-returns-5
 returns-5 c =
     let s = c .before .before .before .before .before .before .before .before in
     let T = rowTable (s .args .rows .now) in
     let F = formOf (typeTable (s .args .types .now)) in
-    count-puts F T _ _ (c .before .let-puts .ensures F) (c .count-puts .ensures)
+    count-puts F T _ _ (c .before .let-puts .ensures .0 F) (c .count-puts .ensures)
 
 enum-known-p-5 : tie.Need-enum-known-p-5
 enum-known-p-5 c = search needs
@@ -105,7 +106,7 @@ call-puts-requires c κs =
     let T = rowTable (s .args .rows .now) in
     let F = formOf (typeTable (s .args .types .now)) in
     let q = subst (Plans F T) (c .before .p5 .given .1) (c .before .before .before .plan-of .ensures) in
-    (s .pre, call-of F T _ q)
+    (redex-front (s .args .rows .now) (s .pre), call-of F T _ q)
 
 count-puts-requires-2 : tie.Need-count-puts-requires-2
 count-puts-requires-2 c κs = search needs
@@ -115,7 +116,7 @@ returns-6 c =
     let s = c .before .before .before .before .before .before .before .before in
     let T = rowTable (s .args .rows .now) in
     let F = formOf (typeTable (s .args .types .now)) in
-    count-puts F T _ _ (c .before .call-puts .ensures) (c .count-puts2 .ensures)
+    count-puts F T _ _ (c .before .call-puts .ensures .0) (c .count-puts2 .ensures)
 
 enum-told-2 : tie.Need-enum-told-2
 enum-told-2 c = search needs

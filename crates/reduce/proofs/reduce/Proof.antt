@@ -9,7 +9,8 @@ use Rattle.layout.proofs.Tables.{row-table-length}
 use Rattle.meaning.specs.Types.{formOf}
 use Rattle.reduce.specs.Plan.{Plans}
 use Rattle.put.proofs.Loops.{standing-length}
-use Rattle.reduce.proofs.Roots.{some-row}
+use Rattle.reduce.proofs.Roots.{whole-in, some-row}
+use Rattle.reduce.proofs.Quiet.{redex-front}
 use Rattle.reduce.proofs.Told.{stays-none, part-rises, part-rows, leaf-rows, pair-rises, pair-rows, let-of, call-of, tie-of, zip-of, put-rows, part-copied}
 use borrow.Author.Needs.{needs}
 use Rattle.reduce.proofs.reduce.Statement.{statement}
@@ -73,7 +74,7 @@ write-leaf-requires c κs =
     let q = subst (Plans F T) (c .before .before .p2 .given .1) (c .before .before .before .before .plan-of .ensures) in
     let rs = leaf-rows F T _ q in
     let ln = s .pre .2 ∙ ap (λ (x : List (List ℕ)). 8 * length x) rs in
-    (some-row T (s .pre .0 .one), ln)
+    (some-row T (whole-in (s .pre .0 .one)), ln)
 
 same-length-2 : tie.Need-same-length-2
 same-length-2 c = search needs
@@ -119,14 +120,14 @@ let-puts-requires c κs =
     let T = rowTable (s .args .rows .now) in
     let F = formOf (typeTable (s .args .types .now)) in
     let q = subst (Plans F T) (c .before .p4 .given .1) (c .before .before .before .plan-of .ensures) in
-    (s .pre .0, let-of F T _ q)
+    (redex-front (s .args .rows .now) (s .pre .0), let-of F T _ q)
 
 write-puts-requires : tie.Need-write-puts-requires
 write-puts-requires c κs =
     let s = c .before .before .before .before .before .before .before .before .before in
     let T = rowTable (s .args .rows .now) in
     let F = formOf (typeTable (s .args .types .now)) in
-    let d = c .before .let-puts .ensures F in
+    let d = c .before .let-puts .ensures .0 F in
     let rs = put-rows F T _ d in
     let ln = s .pre .2 ∙ ap (λ (x : List (List ℕ)). 8 * length x) rs in
     (d .few, d .ready, ln)
@@ -139,7 +140,7 @@ returns-5 c =
     let s = c .before .before .before .before .before .before .before .before .before .before .before .before in
     let T = rowTable (s .args .rows .now) in
     let F = formOf (typeTable (s .args .types .now)) in
-    c .before .before .write-puts .ensures ∙ sym (put-rows F T _ (c .before .before .before .before .let-puts .ensures F))
+    c .before .before .write-puts .ensures ∙ sym (put-rows F T _ (c .before .before .before .before .let-puts .ensures .0 F))
 
 enum-known-p-5 : tie.Need-enum-known-p-5
 enum-known-p-5 c = search needs
@@ -150,14 +151,14 @@ call-puts-requires c κs =
     let T = rowTable (s .args .rows .now) in
     let F = formOf (typeTable (s .args .types .now)) in
     let q = subst (Plans F T) (c .before .p5 .given .1) (c .before .before .before .plan-of .ensures) in
-    (s .pre .0, call-of F T _ q)
+    (redex-front (s .args .rows .now) (s .pre .0), call-of F T _ q)
 
 write-puts-requires-2 : tie.Need-write-puts-requires-2
 write-puts-requires-2 c κs =
     let s = c .before .before .before .before .before .before .before .before .before in
     let T = rowTable (s .args .rows .now) in
     let F = formOf (typeTable (s .args .types .now)) in
-    let d = c .before .call-puts .ensures in
+    let d = c .before .call-puts .ensures .0 in
     let rs = put-rows F T _ d in
     let ln = s .pre .2 ∙ ap (λ (x : List (List ℕ)). 8 * length x) rs in
     (d .few, d .ready, ln)
@@ -170,7 +171,7 @@ returns-6 c =
     let s = c .before .before .before .before .before .before .before .before .before .before .before .before in
     let T = rowTable (s .args .rows .now) in
     let F = formOf (typeTable (s .args .types .now)) in
-    c .before .before .write-puts2 .ensures ∙ sym (put-rows F T _ (c .before .before .before .before .call-puts .ensures))
+    c .before .before .write-puts2 .ensures ∙ sym (put-rows F T _ (c .before .before .before .before .call-puts .ensures .0))
 
 enum-told-2 : tie.Need-enum-told-2
 enum-told-2 c = search needs

@@ -6,6 +6,7 @@ use Rattle.layout.specs.Rows.{rowTable}
 use Rattle.layout.proofs.Tables.{row-table-length}
 use Rattle.meaning.specs.Terms.{rowOf}
 use Rattle.reduce.specs.Plan.{Plans}
+use Rattle.reduce.proofs.Roots.{whole-in}
 use Rattle.reduce.proofs.Given.{call-more, call-size}
 use Rattle.reduce.proofs.Zipped.{plan-other-call}
 use Rattle.reduce.proofs.plans.plan_call.Statement.{statement}
@@ -17,7 +18,7 @@ kind-of-requires c κs =
     let T = rowTable (s .args .rows .now) in
     let L = map rowOf T in
     let R = s .pre .0 in
-    call-more T (R .exact) (R .one) (s .pre .1)
+    call-more T (R .exact) (whole-in (R .one)) (s .pre .1)
 
 end-of-requires : tie.Need-end-of-requires
 end-of-requires c κs =
@@ -25,7 +26,7 @@ end-of-requires c κs =
     let T = rowTable (s .args .rows .now) in
     let L = map rowOf T in
     let R = s .pre .0 in
-    (omega (arith, R .few), omega (arith, call-size T (R .exact) (R .one) (s .pre .1), row-table-length (s .args .rows .now)))
+    (omega (arith, R .few), omega (arith, call-size T (R .exact) (whole-in (R .one)) (s .pre .1), row-table-length (s .args .rows .now)))
 
 returns : tie.Need-returns
 returns c = λ form. unfold Plans in (c .before .before .before .before .pre .1, sym (c .before .before .kind-of .ensures) ∙ c .before .if1 .taken, c .end-of .ensures)
@@ -35,7 +36,7 @@ end-of-requires-2 c κs =
     let s = c .before .before .before .before in
     let T = rowTable (s .args .rows .now) in
     let R = s .pre .0 in
-    (omega (arith, R .few), omega (arith, call-size T (R .exact) (R .one) (s .pre .1), row-table-length (s .args .rows .now)))
+    (omega (arith, R .few), omega (arith, call-size T (R .exact) (whole-in (R .one)) (s .pre .1), row-table-length (s .args .rows .now)))
 
 returns-2 : tie.Need-returns-2
 returns-2 c = λ form. unfold Plans in (c .before .before .before .before .before .pre .1, sym (c .before .before .before .kind-of .ensures) ∙ c .before .if2 .taken, c .end-of2 .ensures)

@@ -6,6 +6,7 @@ use lib.ListN.{length}
 use Rattle.layout.specs.Rows.{typeTable, rowTable}
 use Rattle.meaning.specs.Types.{Param, formOf, params}
 use Rattle.meaning.specs.Terms.{kindNo, typeNo}
+use Rattle.reduce.proofs.Roots.{whole-in}
 use Rattle.reduce.proofs.Bound.{none-bound}
 use Rattle.reduce.proofs.Given.{fix-more, plan-no-function, plan-nameless, plan-tie}
 use borrow.Author.Needs.{needs}
@@ -17,14 +18,14 @@ row-of-requires c κs =
     let s = c .before .before in
     let T = rowTable (s .args .rows .now) in
     let R = s .pre .0 in
-    fix-more T (R .exact) (R .one) (s .pre .1)
+    fix-more T (R .exact) (whole-in (R .one)) (s .pre .1)
 
 returns : tie.Need-returns
 returns c =
     let s = c .before .before .before .before in
     let T = rowTable (s .args .rows .now) in
     let R = s .pre .0 in
-    plan-no-function T (R .exact) (R .one) (s .pre .1) _ (λ q. c .if1 .taken (sym (ap (λ (r : List ℕ). kindNo r) (c .before .row-of .ensures)) ∙ q))
+    plan-no-function T (R .exact) (whole-in (R .one)) (s .pre .1) _ (λ q. c .if1 .taken (sym (ap (λ (r : List ℕ). kindNo r) (c .before .row-of .ensures)) ∙ q))
 
 param-count-requires : tie.Need-param-count-requires
 param-count-requires c κs = search needs
@@ -37,7 +38,7 @@ returns-2 c =
     let F = formOf (typeTable (s .args .types .now)) in
     let k = ap (λ (r : List ℕ). kindNo r) (c .before .before .before .row-of .ensures) ∙ c .before .before .if1 .left in
     let u = ap (λ (r : List ℕ). typeNo r) (c .before .before .before .row-of .ensures) in
-    plan-nameless T (R .exact) (R .one) (s .pre .1) k F (none-bound _ (ap (λ (t : ℕ). length (params (F t))) u ∙ sym (c .before .param-count .ensures .0) ∙ c .if2 .taken))
+    plan-nameless T (R .exact) (whole-in (R .one)) (s .pre .1) k F (none-bound _ (ap (λ (t : ℕ). length (params (F t))) u ∙ sym (c .before .param-count .ensures .0) ∙ c .if2 .taken))
 
 returns-3 : tie.Need-returns-3
 returns-3 c =
@@ -47,7 +48,7 @@ returns-3 c =
     let F = formOf (typeTable (s .args .types .now)) in
     let k = ap (λ (r : List ℕ). kindNo r) (c .before .before .before .row-of .ensures) ∙ c .before .before .if1 .left in
     let u = ap (λ (r : List ℕ). typeNo r) (c .before .before .before .row-of .ensures) in
-    plan-tie T (R .exact) (R .one) (s .pre .1) k F (λ z. c .if2 .left (c .before .param-count .ensures .0 ∙ sym (ap (λ (t : ℕ). length (params (F t))) u) ∙ ap (λ (ps : List Param). length ps) z))
+    plan-tie T (R .exact) (whole-in (R .one)) (s .pre .1) k F (λ z. c .if2 .left (c .before .param-count .ensures .0 ∙ sym (ap (λ (t : ℕ). length (params (F t))) u) ∙ ap (λ (ps : List Param). length ps) z))
 
 pub plan-fix-spec : {M : Type 1} → statement M
 plan-fix-spec =

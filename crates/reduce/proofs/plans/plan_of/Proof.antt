@@ -2,14 +2,14 @@
 use mathlib.Core.Path.{_∙_}
 use Rattle.layout.specs.Rows.{typeTable, rowTable}
 use Rattle.meaning.specs.Types.{formOf}
-use Rattle.reduce.proofs.Roots.{some-row}
+use Rattle.reduce.proofs.Roots.{whole-in, some-row}
 use Rattle.reduce.proofs.Kept.{plan-rest}
 use borrow.Author.Needs.{needs}
 use Rattle.reduce.proofs.plans.plan_of.Statement.{statement}
 use Rattle.reduce.proofs.plans.plan_of.Tie as tie
 
 kind-of-requires : tie.Need-kind-of-requires
-kind-of-requires c κs = some-row (rowTable (c .before .before .args .rows .now)) (c .before .before .pre .one)
+kind-of-requires c κs = some-row (rowTable (c .before .before .args .rows .now)) (whole-in (c .before .before .pre .one))
 
 plan-call-requires : tie.Need-plan-call-requires
 plan-call-requires c κs = search needs

@@ -8,7 +8,7 @@ use Rattle.layout.specs.Rows.{rowTable}
 use Rattle.layout.proofs.Tables.{row-table-length}
 use Rattle.meaning.specs.Terms.{rowOf, kindNo, nNo, sizes, grove}
 use Rattle.reduce.specs.Plan.{rowNo}
-use Rattle.reduce.proofs.Roots.{some-row}
+use Rattle.reduce.proofs.Roots.{whole-in, some-row}
 use Rattle.reduce.proofs.Kept.{project-more, before-in, element-in, plan-no-tuple, plan-first, plan-beyond, plan-element}
 use borrow.Author.Needs.{needs}
 use Rattle.reduce.proofs.plans.plan_project.Statement.{statement}
@@ -20,7 +20,7 @@ row-of-requires c κs =
     let T = rowTable (s .args .rows .now) in
     let L = map rowOf T in
     let R = s .pre .0 in
-    some-row T (R .one)
+    some-row T (whole-in (R .one))
 
 row-of-requires-2 : tie.Need-row-of-requires-2
 row-of-requires-2 c κs =

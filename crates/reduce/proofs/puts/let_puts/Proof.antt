@@ -17,7 +17,7 @@ row-of-requires c κs =
     let s = c .before in
     let T = rowTable (s .args .rows .now) in
     let R = s .pre .0 in
-    some-row T (R .one)
+    some-row T (R .inside)
 
 cast-w : tie.Need-cast-w
 cast-w c =
@@ -32,7 +32,7 @@ cast-b c =
     let T = rowTable (s .args .rows .now) in
     let R = s .pre .0 in
     let short : length T ≤ 2048 = omega (arith, R .few, row-table-length (s .args .rows .now)) in
-    omega (arith, short, s .pre .1 .1, bound-in T (R .exact) (R .one) (s .pre .1 .0))
+    omega (arith, short, s .pre .1 .1, bound-in T (R .exact) (R .inside) (s .pre .1 .0))
 
 returns : tie.Need-returns
 returns c =
@@ -40,7 +40,7 @@ returns c =
     let T = rowTable (s .args .rows .now) in
     let R = s .pre .0 in
     let short : length T ≤ 2048 = omega (arith, R .few, row-table-length (s .args .rows .now)) in
-    λ form. let-puts T (R .exact) (R .one) short (s .pre .1 .0) (s .args .body) (s .pre .1 .1) form _ _ _ _ (sym (ap (λ (r : List ℕ). wordNo r) (c .before .row-of .ensures))) refl
+    (λ form. let-puts T (R .exact) (R .inside) short (s .pre .1 .0) (s .args .body) (s .pre .1 .1) form _ _ _ _ (sym (ap (λ (r : List ℕ). wordNo r) (c .before .row-of .ensures))) refl, refl)
 
 pub let-puts-spec : {M : Type 1} → statement M
 let-puts-spec = tie.close (tie.spec row-of-requires cast-w cast-b returns)

@@ -10,7 +10,6 @@ use Rattle.meaning.specs.Types.{formOf, params, names}
 use Rattle.meaning.specs.Terms.{typeNo}
 use Rattle.reduce.proofs.Bound.{some-bound}
 use Rattle.reduce.proofs.Given.{fix-more, tie-puts}
-use borrow.Author.Needs.{needs}
 use Rattle.reduce.proofs.puts.tie_puts.Statement.{statement}
 use Rattle.reduce.proofs.puts.tie_puts.Tie as tie
 
@@ -19,7 +18,7 @@ row-of-requires c κs =
     let s = c .before .before in
     let T = rowTable (s .args .rows .now) in
     let R = s .pre .0 in
-    fix-more T (R .exact) (R .one) (s .pre .1 .0)
+    fix-more T (R .exact) (R .inside) (s .pre .1 .0)
 
 param-name-requires : tie.Need-param-name-requires
 param-name-requires c κs =
@@ -30,22 +29,21 @@ param-name-requires c κs =
     let u = ap (λ (r : List ℕ). typeNo r) (c .row-of .ensures) in
     omega (arith, some-bound _ (s .pre .1 .2), ap (λ (t : ℕ). length (params (F t))) u)
 
-term-rows-requires : tie.Need-term-rows-requires
-term-rows-requires c κs = search needs
-
-cast-n : tie.Need-cast-n
-cast-n c = search needs
+cast-e : tie.Need-cast-e
+cast-e c =
+    let s = c .before .before .before .before in
+    omega (arith, s .pre .0 .few, s .pre .0 .inside, s .pre .2)
 
 returns : tie.Need-returns
 returns c =
-    let s = c .before .before .before .before .before in
+    let s = c .before .before .before .before in
     let T = rowTable (s .args .rows .now) in
     let R = s .pre .0 in
     let short : length T ≤ 2048 = omega (arith, R .few, row-table-length (s .args .rows .now)) in
     let F = formOf (typeTable (s .args .types .now)) in
-    let u = ap (λ (r : List ℕ). typeNo r) (c .before .before .row-of .ensures) in
-    tie-puts T (R .exact) (R .one) short F (s .pre .1) _ _ _ _ (c .before .param-name .ensures ∙ ap (λ (t : ℕ). getD (names (params (F t))) 0 0) (sym u)) (c .term-rows .ensures ∙ sym (row-table-length (s .args .rows .now)))
+    let u = ap (λ (r : List ℕ). typeNo r) (c .before .row-of .ensures) in
+    tie-puts T (R .exact) (R .inside) short F (s .pre .1) _ _ _ _ (c .param-name .ensures ∙ ap (λ (t : ℕ). getD (names (params (F t))) 0 0) (sym u)) (s .pre .2)
 
 pub tie-puts-spec : {M : Type 1} → statement M
 tie-puts-spec =
-    tie.close (tie.spec row-of-requires param-name-requires term-rows-requires cast-n returns)
+    tie.close (tie.spec row-of-requires param-name-requires cast-e returns)

@@ -9,7 +9,7 @@ use Rattle.meaning.specs.Terms.{rowOf, nNo, sizes, grove}
 use Rattle.meaning.specs.Steps.{ready, anyNil}
 use Rattle.reduce.specs.Plan.{rowNo}
 use Rattle.reduce.specs.Halves.{BoundsAt}
-use Rattle.reduce.proofs.Roots.{some-row}
+use Rattle.reduce.proofs.Roots.{whole-in, some-row}
 use Rattle.reduce.proofs.Given.{call-more}
 use Rattle.reduce.proofs.Zipped.{zip-whole, plan-unready, plan-short, zips-at, plan-zip}
 use Rattle.reduce.proofs.Told.{count-stays, count-leaf, count-zip}
@@ -22,9 +22,9 @@ count-zip-spec =
     tie.close
     (tie.spec
     -- row-of-requires
-    (λ c κs. let s = c .before in some-row (rowTable (s .args .rows .now)) (s .pre .0 .one))
+    (λ c κs. let s = c .before in some-row (rowTable (s .args .rows .now)) (whole-in (s .pre .0 .one)))
     -- row-of-requires-2
-    (λ c κs. let s = c .before .before in call-more (rowTable (s .args .rows .now)) (s .pre .0 .exact) (s .pre .0 .one) (s .pre .1 .0))
+    (λ c κs. let s = c .before .before in call-more (rowTable (s .args .rows .now)) (s .pre .0 .exact) (whole-in (s .pre .0 .one)) (s .pre .1 .0))
     (λ c. search needs)
     (λ c. search needs)
     -- fill-bounds-requires
@@ -37,7 +37,7 @@ count-zip-spec =
     let (e, q, g) = s .pre .1 in
     let i : nNo (rowNo T 0) ≡ c .before .before .before .row-of .result .n = ap (λ (r : List ℕ). nNo r) (c .before .before .before .row-of .ensures) in
     let w : first + sizes (grove L first (c .before .before .before .row-of .result .n)) ≡ length T = ap (λ (x : ℕ). first + sizes (grove L first x)) (sym i) ∙ zip-whole T (R .exact) (R .one) e q first g in
-    (refl, R .few, omega (arith, i, R .args e), omega (arith, w)))
+    (refl, omega (arith, R .few), omega (arith, i, R .args e), omega (arith, w)))
     (λ c. search needs)
     -- all-lists-requires
     (λ c κs.

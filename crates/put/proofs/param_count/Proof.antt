@@ -4,8 +4,8 @@ use native.Mathlib.Omega.{arith}
 use lib.ListN.{length}
 use Rattle.rules.proofs.ByRule.{params-few, params-high, params-all}
 use borrow.Author.Needs.{needs}
-use Rattle.reduce.proofs.puts.param_count.Statement.{statement}
-use Rattle.reduce.proofs.puts.param_count.Tie as tie
+use Rattle.put.proofs.param_count.Statement.{statement}
+use Rattle.put.proofs.param_count.Tie as tie
 
 form-of-requires : tie.Need-form-of-requires
 form-of-requires c κs = search needs

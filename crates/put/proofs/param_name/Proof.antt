@@ -4,9 +4,9 @@ use native.Mathlib.Omega.{arith}
 use mathlib.Core.List.{List}
 use lib.ListN.{length, getD}
 use Rattle.meaning.specs.Types.{Param, names}
-use Rattle.reduce.proofs.Bound.{params-parts}
-use Rattle.reduce.proofs.puts.param_name.Statement.{statement}
-use Rattle.reduce.proofs.puts.param_name.Tie as tie
+use Rattle.put.proofs.Once.{params-parts}
+use Rattle.put.proofs.param_name.Statement.{statement}
+use Rattle.put.proofs.param_name.Tie as tie
 
 name-of-requires : tie.Need-name-of-requires
 name-of-requires c κs = let a = c .before .args in omega (arith, ap (λ (ps : List Param). length ps) (params-parts (a .types .now) (a .t) (omega (arith, c .before .pre))), c .before .pre)

@@ -1,0 +1,152 @@
+// Rules that are carried out in one pass, on rows that may go on behind the tree: let, a call of a native function, an if over true, fix. The new rows
+// go to the front of a table that may have more room.
+use crate::places;
+use crate::puts;
+use layout::Row;
+use put::Pass;
+ghost use mathlib.Core.Path.{_≡_};
+ghost use mathlib.Core.Bool.{true};
+ghost use Prim.Native.Nat.{ℕ, _≤_};
+ghost use lib.ListN.{length};
+ghost use Rattle.layout.specs.Rows.{typeTable, rowTable};
+ghost use Rattle.meaning.specs.Types.{Form, formOf};
+ghost use Rattle.meaning.specs.Terms.{kindNo};
+ghost use Rattle.reduce.specs.Rule.{Front};
+ghost use Rattle.reduce.specs.Plan.{rowNo, TiesAt};
+ghost use Rattle.reduce.specs.Once.{MadeAtOnce, Goes};
+
+// Of a let: its body with the bound term put.
+pub fn let_once(types: &[u8], rows: &[u8], to: &mut [u8]) -> Pass
+    requires { ⌜ Front (now rows) × (kindNo (rowNo (rowTable (now rows)) 0) ≡ 19) × (length (now to) ≤ 32768) ⌝ }
+    ensures { λ x. ⌜ MadeAtOnce (formOf (typeTable (now (types .entry)))) (rowTable (now (rows .entry))) (rowTable (now (to .exit))) x ⌝ }
+{
+    let p = puts::let_puts(rows, terms::end_of(rows, 1));
+    puts::put_puts(types, rows, p, to)
+}
+
+// Of a call of a native function: its body with the arguments put, where it has as many as the function has names.
+pub fn call_once(types: &[u8], rows: &[u8], to: &mut [u8]) -> Pass
+    requires { ⌜ Front (now rows) × (kindNo (rowNo (rowTable (now rows)) 0) ≡ 8) × (kindNo (rowNo (rowTable (now rows)) 1) ≡ 6) × (length (now to) ≤ 32768) ⌝ }
+    ensures { λ x. ⌜ MadeAtOnce (formOf (typeTable (now (types .entry)))) (rowTable (now (rows .entry))) (rowTable (now (to .exit))) x ⌝ }
+{
+    let r = places::row_of(rows, 0);
+    let p = puts::call_puts(types, rows, terms::end_of(rows, 1));
+    let n = p.count;
+    if n != r.n as usize {
+        return Pass::Unknown;
+    }
+    let bounds = p.bounds;
+    let old = layout::wide(bounds[n]);
+    let x = puts::put_puts(types, rows, p, to);
+    match x {
+        Pass::Made(e, new) => Pass::Made(old, new),
+        Pass::Unknown => Pass::Unknown,
+    }
+}
+
+// Of an if over true: its second tree.
+pub fn if_once(rows: &[u8], to: &mut [u8]) -> Pass
+    requires { ⌜ Front (now rows) × (kindNo (rowNo (rowTable (now rows)) 0) ≡ 10) × (kindNo (rowNo (rowTable (now rows)) 1) ≡ 3) ⌝ }
+    ensures { λ x. ⌜ ((form : ℕ → Form) → MadeAtOnce form (rowTable (now (rows .entry))) (rowTable (now (to .exit))) x) ⌝ }
+{
+    let end = terms::end_of(rows, 2);
+    let old = terms::end_of(rows, end);
+    let n = end - 2;
+    if layout::term_rows(to) < n {
+        return Pass::Unknown;
+    }
+    put::copy_rows(to, 0, rows, 2, n);
+    Pass::Made(old, n)
+}
+
+// Of a fix of a function with a name: the function of the others.
+pub fn tie_once(types: &[u8], rows: &[u8], to: &mut [u8]) -> Pass
+    requires { ⌜ Front (now rows) × TiesAt (formOf (typeTable (now types))) (rowTable (now rows)) × (length (now to) ≤ 32768) ⌝ }
+    ensures { λ x. ⌜ MadeAtOnce (formOf (typeTable (now (types .entry)))) (rowTable (now (rows .entry))) (rowTable (now (to .exit))) x ⌝ }
+{
+    if to.len() < layout::TERM_ROW {
+        return Pass::Unknown;
+    }
+    let r = places::row_of(rows, 0);
+    let old = terms::end_of(rows, 0);
+    let p = puts::tie_puts(types, rows, old);
+    put::write_row(
+        to,
+        0,
+        Row {
+            kind: 6,
+            n: 0,
+            ty: r.ty,
+            word: 0,
+        },
+    );
+    let x = puts::put_puts(types, rows, p, &mut to[layout::TERM_ROW..]);
+    match x {
+        Pass::Made(e, new) => Pass::Made(old, new + 1),
+        Pass::Unknown => Pass::Unknown,
+    }
+}
+
+// Whether the first row is a fix of a function with a name.
+fn ties(types: &[u8], rows: &[u8]) -> bool
+    requires { ⌜ Front (now rows) × (kindNo (rowNo (rowTable (now rows)) 0) ≡ 11) ⌝ }
+    ensures { λ b. ⌜ (b ≡ true → TiesAt (formOf (typeTable (now (types .entry)))) (rowTable (now (rows .entry)))) ⌝ }
+{
+    let c = places::row_of(rows, 1);
+    let k = c.kind;
+    if k == 6 {
+        return 0 < put::param_count(types, c.ty);
+    }
+    false
+}
+
+// The rule of the first row, if it is one of these.
+pub fn make(types: &[u8], rows: &[u8], to: &mut [u8]) -> Pass
+    requires { ⌜ Front (now rows) × (length (now to) ≤ 32768) ⌝ }
+    ensures { λ x. ⌜ MadeAtOnce (formOf (typeTable (now (types .entry)))) (rowTable (now (rows .entry))) (rowTable (now (to .exit))) x ⌝ }
+{
+    let k = places::kind_of(rows, 0);
+    if k == 19 {
+        return let_once(types, rows, to);
+    }
+    if k == 8 {
+        if places::kind_of(rows, 1) == 6 {
+            return call_once(types, rows, to);
+        }
+        return Pass::Unknown;
+    }
+    if k == 10 {
+        if places::kind_of(rows, 1) == 3 {
+            return if_once(rows, to);
+        }
+        return Pass::Unknown;
+    }
+    if k == 11 {
+        if ties(types, rows) {
+            return tie_once(types, rows, to);
+        }
+        return Pass::Unknown;
+    }
+    Pass::Unknown
+}
+
+// Whether the first row has one of these rules.
+pub fn goes(types: &[u8], rows: &[u8]) -> bool
+    requires { ⌜ Front (now rows) ⌝ }
+    ensures { λ b. ⌜ (b ≡ true → Goes (formOf (typeTable (now (types .entry)))) (rowTable (now (rows .entry)))) ⌝ }
+{
+    let k = places::kind_of(rows, 0);
+    if k == 19 {
+        return true;
+    }
+    if k == 8 {
+        return places::kind_of(rows, 1) == 6;
+    }
+    if k == 10 {
+        return places::kind_of(rows, 1) == 3;
+    }
+    if k == 11 {
+        return ties(types, rows);
+    }
+    false
+}
