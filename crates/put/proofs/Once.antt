@@ -16,7 +16,7 @@ use Rattle.meaning.proofs.Trees.Parse.{tree-row}
 use Rattle.rules.specs.Forms.{says, forms}
 use Rattle.rules.proofs.ByRule.{params-few, params-high, params-all}
 use Rattle.terms.proofs.Scan.{grove-none, grove-size}
-use Rattle.put.specs.Put.{next, pick, told, mark, fan, atPlace, binds, rowsFor, inner, after, chosen, run, standing, below, argRows, putRows, firstRow, endRow, Bare, Ready, Among, Widens, Within, Shut, Turns, Exact}
+use Rattle.put.specs.Put.{next, pick, told, mark, fan, atPlace, binds, rowsFor, inner, after, chosen, run, standing, below, argRows, putRows, Bare, Ready, Among, Widens, Within, Shut, Turns, Exact}
 use Rattle.put.specs.declared.Range.{Range}
 use Rattle.put.specs.declared.Turn.{Turn}
 use Rattle.put.specs.declared.Turn.the-variants.{Stands, Whole, Puts}

@@ -22,7 +22,7 @@ use Rattle.runs.specs.Sites.{Site, at-row, at-end, Tells, Whole, Halted,
 use Rattle.runs.specs.Tries.{Trying, Tries, Found, atRoot}
 use Rattle.runs.specs.Going.{space}
 use Rattle.runs.specs.declared.Tried.{Tried}
-use Rattle.runs.specs.declared.Tried.the-variants.{Stays, Goes, Sends}
+use Rattle.runs.specs.declared.Tried.the-variants.{Stays, Goes, Sends, Uncounted}
 use Rattle.runs.proofs.PutBack.{rows-from}
 use Rattle.runs.proofs.CallOut.{whole-size}
 use Rattle.runs.proofs.Tries.{types-fit}
@@ -175,7 +175,23 @@ module _ (m : Limits) (kept kept′ work frames frames′ : List ℕ) (s e : Sta
 
 -- what goes or sends does not stay
 pub goes-not-stays : (old new : ℕ) {A : Type 0} → Goes old new ≡ Stays → A
-goes-not-stays old new q = let z : _≡_ {A = ℕ} 0 1 = ap (λ (y : Tried). elim y [ Stays ↦ 1 | Goes a b ↦ 0 | Sends a ↦ 0 ]) q in absurd (omega arith)
+goes-not-stays old new q = let z : _≡_ {A = ℕ} 0 1 = ap (λ (y : Tried). elim y [ Stays ↦ 1 | Goes a b ↦ 0 | Sends a ↦ 0 | Uncounted ↦ 0 ]) q in absurd (omega arith)
 
 pub sends-not-stays : (old : ℕ) {A : Type 0} → Sends old ≡ Stays → A
-sends-not-stays old q = let z : _≡_ {A = ℕ} 0 1 = ap (λ (y : Tried). elim y [ Stays ↦ 1 | Goes a b ↦ 0 | Sends a ↦ 0 ]) q in absurd (omega arith)
+sends-not-stays old q = let z : _≡_ {A = ℕ} 0 1 = ap (λ (y : Tried). elim y [ Stays ↦ 1 | Goes a b ↦ 0 | Sends a ↦ 0 | Uncounted ↦ 0 ]) q in absurd (omega arith)
+
+pub uncounted-not-stays : {A : Type 0} → Uncounted ≡ Stays → A
+uncounted-not-stays q = let z : _≡_ {A = ℕ} 0 1 = ap (λ (y : Tried). elim y [ Stays ↦ 1 | Goes a b ↦ 0 | Sends a ↦ 0 | Uncounted ↦ 0 ]) q in absurd (omega arith)
+
+-- and what is counted is not uncounted
+pub stays-not-uncounted : Stays ≡ Uncounted → ⊥
+stays-not-uncounted q = let z : _≡_ {A = ℕ} 0 1 = ap (λ (y : Tried). elim y [ Stays ↦ 0 | Goes a b ↦ 0 | Sends a ↦ 0 | Uncounted ↦ 1 ]) q in omega arith
+
+pub goes-not-uncounted : (old new : ℕ) → Goes old new ≡ Uncounted → ⊥
+goes-not-uncounted old new q = let z : _≡_ {A = ℕ} 0 1 = ap (λ (y : Tried). elim y [ Stays ↦ 0 | Goes a b ↦ 0 | Sends a ↦ 0 | Uncounted ↦ 1 ]) q in omega arith
+
+pub stays-not-goes : (old new : ℕ) → Stays ≡ Goes old new → ⊥
+stays-not-goes old new q = let z : _≡_ {A = ℕ} 0 1 = ap (λ (y : Tried). elim y [ Stays ↦ 0 | Goes a b ↦ 1 | Sends a ↦ 0 | Uncounted ↦ 0 ]) q in omega arith
+
+pub sends-not-goes : (n old new : ℕ) → Sends n ≡ Goes old new → ⊥
+sends-not-goes n old new q = let z : _≡_ {A = ℕ} 0 1 = ap (λ (y : Tried). elim y [ Stays ↦ 0 | Goes a b ↦ 1 | Sends a ↦ 0 | Uncounted ↦ 0 ]) q in omega arith

@@ -29,10 +29,10 @@ use Rattle.search.specs.declared.Stand.{Stand}
 use Rattle.runs.specs.Sites.{Site, Whole, Halted, own, InRecord, Turns, Tells, Calling}
 use Rattle.runs.specs.Going.{space, OnTheWay, Begins, PutBack, Fronts}
 use Rattle.runs.specs.Loops.{Ready, SentOff}
-use Rattle.runs.specs.Tries.{Tries, Turning, Steps, Found}
+use Rattle.runs.specs.Tries.{Trying, Tries, Turning, Steps, Found}
 use Rattle.runs.specs.declared.Next.{Next}
 use Rattle.runs.specs.declared.Tried.{Tried}
-use Rattle.runs.specs.declared.Tried.the-variants.{Stays, Goes, Sends}
+use Rattle.runs.specs.declared.Tried.the-variants.{Stays, Goes, Sends, Uncounted}
 use Rattle.runs.proofs.CallOut.{whole-size}
 use Rattle.runs.proofs.Fronting.{types-same, entries-same, next-same, head-sound-same}
 use Rattle.runs.proofs.Sites.{site-goes, isCall, here-no-call}
@@ -190,6 +190,10 @@ module _ (m : Limits) (kept₀ work₀ : List ℕ) (budget : ℕ) where
       unfolding Tells
       stop-goes kept′ frames′ n old new c e k t h = told-by (n .tried) (Goes old new) form₀ (space m kept′) work frames′ (n .s) e (stop-tells kept′ frames′ n c) k t h
 
+      pub stop-uncounted : (kept′ frames′ : List ℕ) (n : Next) → InRecord m kept kept′ × Found (formOf (typesIn kept)) (space m kept) (space m kept′) work frames frames′ s n → n .tried ≡ Uncounted
+          → Tries form₀ (space m kept′) work frames′ (n .s) Uncounted
+      stop-uncounted kept′ frames′ n c e = told-by (n .tried) Uncounted form₀ (space m kept′) work frames′ (n .s) e (stop-tells kept′ frames′ n c)
+
       pub stop-sends : (kept′ frames′ : List ℕ) (n : Next) (old : ℕ) → InRecord m kept kept′ × Found (formOf (typesIn kept)) (space m kept) (space m kept′) work frames frames′ s n → n .tried ≡ Sends old
           → (k : ℕ) (t : Tree) (h : Halted form₀ k (space m kept′) work frames′ (n .s) t) → (size (h .tree) ≡ old) × ((c : Call) × (u : Tree) × (own form₀ k (h .tree) ≡ go (some c) u))
       unfolding Tells
@@ -216,6 +220,20 @@ module _ (m : Limits) (kept₀ work₀ : List ℕ) (budget : ℕ) where
           by : (b : Bool) → s .here ≡ b → size (x .halted .tree) ≤ s .l + (rowCount work - s .r)
           by true e = omega (arith, here-fits form₀ (start .next) (space m kept) work frames s (x .tree) (x .halted) e)
           by false e = omega (arith, end-all form₀ (start .next) (space m kept) work frames s (x .tree) (x .halted) e .0)
+
+      -- what making rows at once asks, and what it tells
+      pub fresh-asks : Tries form₀ (space m kept) work frames s Uncounted → (s .here ≡ true) × Trying (formOf (typesIn kept)) (space m kept) work frames s × Tries (formOf (typesIn kept)) (space m kept) work frames s Uncounted
+      unfolding Tells stepped
+      fresh-asks y =
+          let f = same-types kept (x .front) (x .long) .1 in
+          let T : Trying form₀ (space m kept) work frames s = record { number = start .next; whole = x .tree; halted = x .halted; count = length (start .types); in-range = x .good .legalRows } in
+          (y (start .next) (x .tree) (x .halted) .0, subst (λ (g : ℕ → Form). Trying g (space m kept) work frames s) (sym f) T, subst (λ (g : ℕ → Form). Tries g (space m kept) work frames s Uncounted) (sym f) y)
+
+      pub fresh-goes : (old new : ℕ) → ((left frames : List ℕ) → Tries (formOf (typesIn kept)) left work frames s (Goes old new)) → (u : Tree) × (own form₀ (start .next) (x .halted .tree) ≡ go none u) × Turns (s .here) (x .halted .tree) u old new
+      unfolding Tells
+      fresh-goes old new y =
+          let f = same-types kept (x .front) (x .long) .1 in
+          subst (λ (g : ℕ → Form). Tries g (space m kept) work frames s (Goes old new)) f (y (space m kept) frames) (start .next) (x .tree) (x .halted)
 
       -- with an answer of the table, or at the budget
       pub halts-says : (a : Answer) (r : Run) (kept′ work′ : List ℕ) → length work ≡ length work₀ → runs m budget start ≡ record { answer = a; made = made; state = stepped start (x .tree); letter = [] }

@@ -2,15 +2,15 @@
 use Prim.Native.Nat.{ℕ, _+_, _*_, _-_, _/_, _<_, _≤_}
 use mathlib.Core.Path.{_≡_, refl, ap, sym, _∙_, subst}
 use mathlib.Core.Bool.{Bool, true, false}
-use mathlib.Core.List.{List, _∷_, _++_, map, append-assoc}
+use mathlib.Core.List.{List, [], _∷_, _++_, map, append-assoc}
 use mathlib.Core.Option.{Option, none, some}
 use native.Mathlib.Omega.{arith}
-use lib.ListN.{length, take, drop, length-take, length-drop, length-map, take-append-drop}
+use lib.ListN.{length, getD, take, drop, length-take, length-drop, length-map, take-append-drop}
 use Rattle.layout.specs.Rows.{rowTable, typeTable, termRows}
-use Rattle.layout.proofs.Tables.{row-table-cut, row-table-length, type-table-cut}
+use Rattle.layout.proofs.Tables.{row-table-take, row-table-cut, row-table-length, type-table-cut}
 use Rattle.meaning.specs.Bytes.{Limits, width, reads, termRow, callsAt, rowsAt}
 use Rattle.meaning.specs.Types.{Form}
-use Rattle.meaning.specs.Terms.{Tree, node, Row, raw, rowOf, flat, size, top, treeOf}
+use Rattle.meaning.specs.Terms.{Tree, node, Row, raw, rowOf, flat, size, top, treeOf, kindNo, wordNo}
 use Rattle.meaning.specs.Steps.{Out, stay, go, become}
 use Rattle.meaning.specs.Records.{typesIn, typeCount}
 use Rattle.meaning.proofs.Trees.EachRow.{Fact, Every, AllRows, rows-left, rows-right, every-rows, rows-every}
@@ -24,15 +24,19 @@ use Rattle.search.specs.declared.Stand.{Stand}
 use Rattle.terms.proofs.Scan.{size-some}
 use lib.Seq.{take-at, length-take-le}
 use Rattle.search.specs.Search.{Changed}
-use Rattle.search.proofs.Tables.{map-append, rows-before, pasted-length, pasted-before, pasted-there, table-same, lent-length, lent-tree}
+use Rattle.search.proofs.Tables.{map-append, rows-before, pasted-length, pasted-before, pasted-there, table-same, lent-length, lent-rows, lent-tree}
 use Rattle.search.proofs.Changes.{frame-rows}
 use Rattle.search.proofs.Ends.{all-rows}
-use Rattle.reduce.specs.Rule.{Redex, told, sizeIf, rowsIf, ruleOf}
+use Rattle.reduce.specs.Rule.{Redex, Front, told, sizeIf, rowsIf, ruleOf}
 use Rattle.reduce.specs.declared.Outcome.the-variants.{Stays, Goes}
 use Rattle.reduce.specs.Behind.{Begins, StandsBehind}
+use Rattle.reduce.specs.Once.{Goes as Goes′, MadeAtOnce}
+use Rattle.put.specs.declared.Pass.the-variants.{Made}
 use Rattle.reduce.proofs.Quiet.{rule-is, tree-is, redex-of}
-use Rattle.runs.specs.Sites.{Site, at-row, at-end, own, Turns, Halted}
-use Rattle.runs.specs.Tries.{Trying, Turning, Going, Makes}
+use Rattle.runs.specs.Sites.{Site, at-row, at-end, own, Turns, Halted, Tells}
+use Rattle.runs.specs.declared.Tried.{Tried}
+use Rattle.runs.specs.declared.Tried.the-variants as Tried
+use Rattle.runs.specs.Tries.{Trying, Tries, Turning, Going, Stands, Makes}
 use Rattle.runs.proofs.Sites.{isCall, here-rows, here-no-call, here-behind}
 
 -- the types as they are lent
@@ -98,6 +102,15 @@ module _ (form : ℕ → Form) (k : ℕ) (left right frames : List ℕ) (s : Sta
       site-range (s .here) (a .framesAround) (a .trees) (h .tree) (h .outer) (h .rest) (h .site) (a .search)
       (subst (λ (l : List Row). AllRows P l) (sym (whole-flat (a .framesAround) (a .trees) (a .search) ∙ ap flat (a .whole))) (every-rows P t d))
 
+-- WHAT A RULE MAKES
+made-rule : (form : ℕ → Form) (k : ℕ) (t u : Tree) → isCall t ≡ false → own form k t ≡ go none u → ruleOf form t ≡ some u
+unfolding become
+made-rule form k t u e g = by (ruleOf form t) (sym (own-rule form k t e) ∙ g)
+  where
+    by : (o : Option Tree) → become o ≡ go none u → o ≡ some u
+    by none q = let z : _≡_ {A = ℕ} 0 1 = ap (λ (x : Out). elim x [ stay ↦ 0 | go c v ↦ 1 ]) q in absurd (omega arith)
+    by (some v) q = ap some (ap (λ (x : Out). elim x [ stay ↦ u | go c w ↦ w ]) q)
+
 -- AT THE SEARCH
 module _ (form : ℕ → Form) (k : ℕ) (left right frames : List ℕ) (s : Stand) (t : Tree) (h : Halted form k left right frames s t) (here : s .here ≡ true) where
   here-site : Site true (h .all .framesAround) (h .all .trees) (h .tree) (h .outer) (h .rest)
@@ -105,6 +118,10 @@ module _ (form : ℕ → Form) (k : ℕ) (left right frames : List ℕ) (s : Sta
 
   here-all : (table right (8 * s .r) (size (h .tree)) ≡ map raw (flat (h .tree))) × (toCome right (s .r + size (h .tree)) ≡ map raw (spelled (h .rest))) × (size (h .tree) ≤ rowCount right - s .r)
   here-all = here-rows form k left right frames s (h .all .framesAround) (h .all .trees) (h .tree) (h .outer) (h .rest) here-site (h .all .search)
+
+  here-cut : reads termRow (size (h .tree)) (drop (8 * s .r) right) ≡ map raw (flat (h .tree))
+  unfolding table
+  here-cut = here-all .0
 
   pub here-fits : size (h .tree) ≤ rowCount right - s .r
   here-fits = here-all .2
@@ -139,6 +156,41 @@ module _ (form : ℕ → Form) (k : ℕ) (left right frames : List ℕ) (s : Sta
         let n = lent-length right x (s .r) fits ex in
         record { few = omega (arith, n, few); inside = omega (arith, ap size here-first, here-fits, row-table-length x, n) }
 
+    -- each row as its head is written, and a let's name in range
+    first-row : (y : Tree) (more : List Row) → getD (map raw (flat y ++ more)) 0 [] ≡ getD (map raw (flat y)) 0 []
+    unfolding flat
+    first-row (node g u f) more = refl
+
+    pub here-front : s .r ≤ rowCount right → (count : ℕ) → Every (legal count) t → rowCount right - s .r ≤ 2048 → Front x
+    here-front ends count d few =
+        let n = size (h .tree) in
+        let Y = take (8 * n) (drop (8 * s .r) right) in
+        let all : rowTable x ≡ map raw (flat (h .tree) ++ spelled (h .rest)) = lent-rows right x (s .r) fits ex ∙ here-come in
+        let R = redex-of Y (h .tree) (row-table-cut right (8 * s .r) n (8 * n) refl (omega (arith, here-fits, ends)) ∙ here-cut) count (in-range form k left right frames s (legal count) t h d) (omega (arith, here-fits, few, length-take (8 * n) (drop (8 * s .r) right))) in
+        let first : getD (rowTable x) 0 [] ≡ getD (rowTable Y) 0 [] = ap (λ (l : List (List ℕ)). getD l 0 []) all ∙ first-row (h .tree) (spelled (h .rest)) ∙ sym (ap (λ (l : List (List ℕ)). getD l 0 []) (row-table-cut right (8 * s .r) n (8 * n) refl (omega (arith, here-fits, ends)) ∙ here-cut)) in
+        record {
+          few = omega (arith, row-table-length x, lent-length right x (s .r) fits ex, few);
+          exact = ap (λ (l : List (List ℕ)). map raw (map rowOf l)) all ∙ ap (map raw) (rows-raw (flat (h .tree) ++ spelled (h .rest))) ∙ sym all;
+          inside = here-begins few .inside;
+          name = λ q. subst (λ (r : List ℕ). wordNo r ≤ 65535) (sym first) (R .name (ap (λ (r : List ℕ). kindNo r) (sym first) ∙ q));
+        }
+
+    -- a rule that goes there, and the rows that it makes
+    pub here-uncounted : Goes′ form (rowTable x) → (s .here ≡ true) × ((u : Tree) × (own form k (h .tree) ≡ go none u))
+    unfolding become
+    here-uncounted (u, e) = (here, (u, own-rule form k (h .tree) (here-no-call _ _ _ _ _ here-site) ∙ ap (λ (y : Tree). become (ruleOf form y)) (sym here-first) ∙ ap become e))
+
+    pub here-once : (to : List (List ℕ)) (old new : ℕ) → MadeAtOnce form (rowTable x) to (Made old new) → (u : Tree) × (own form k (h .tree) ≡ go none u) × Turns (s .here) (h .tree) u old new
+    unfolding become MadeAtOnce here-uncounted
+    here-once to old new (a, (u, e, b, c)) = (u, here-uncounted (u, e) .1 .1, turns-anew (s .here) (h .tree) u old new (sym (a ∙ ap size here-first)) (sym b))
+
+    pub here-fresh : (to : List (List ℕ)) (old new : ℕ) → MadeAtOnce form (rowTable x) to (Made old new) → (u : Tree) → own form k (h .tree) ≡ go none u → take new to ≡ map raw (flat u)
+    unfolding MadeAtOnce
+    here-fresh to old new (a, (v, e, b, c)) u g =
+        let r : some v ≡ some u = sym e ∙ ap (ruleOf form) here-first ∙ made-rule form k (h .tree) u (here-no-call _ _ _ _ _ here-site) g in
+        let w : v ≡ u = ap (λ (o : Option Tree). elim o [ none ↦ v | some y ↦ y ]) r in
+        c ∙ ap (λ (y : Tree). map raw (flat y)) w
+
     pub here-stands : (n : ℕ) → StandsBehind form (treeOf (termRows x)) n → (u : Tree) × (own form k (h .tree) ≡ go none u) × Turns (s .here) (h .tree) u n 0
     here-stands n y = told-stands form k (s .here) (h .tree) n (here-no-call _ _ _ _ _ here-site) here (subst (λ (t : Tree). StandsBehind form t n) here-first y)
 
@@ -162,15 +214,6 @@ module _ (form : ℕ → Form) (k : ℕ) (left right frames : List ℕ) (s : Sta
 
     pub here-turns : (m : ℕ) → told (Goes m) ≡ sizeIf (ruleOf form (treeOf (termRows x))) → (u : Tree) × (own form k (h .tree) ≡ go none u) × Turns (s .here) (h .tree) u n m
     here-turns m q = let (u, g, b) = here-goes m q in (u, g, turns-anew (s .here) (h .tree) u n m (sym en) b)
-
--- WHAT A RULE MAKES
-made-rule : (form : ℕ → Form) (k : ℕ) (t u : Tree) → isCall t ≡ false → own form k t ≡ go none u → ruleOf form t ≡ some u
-unfolding become
-made-rule form k t u e g = by (ruleOf form t) (sym (own-rule form k t e) ∙ g)
-  where
-    by : (o : Option Tree) → become o ≡ go none u → o ≡ some u
-    by none q = let z : _≡_ {A = ℕ} 0 1 = ap (λ (x : Out). elim x [ stay ↦ 0 | go c v ↦ 1 ]) q in absurd (omega arith)
-    by (some v) q = ap some (ap (λ (x : Out). elim x [ stay ↦ u | go c w ↦ w ]) q)
 
 -- at the search
 module _ (form : ℕ → Form) (k : ℕ) (left left′ right right′ frames : List ℕ) (s s′ : Stand) (t : Tree) (h : Halted form k left right frames s t) (here : s .here ≡ true) (u : Tree) (g : own form k (h .tree) ≡ go none u) where
@@ -275,3 +318,46 @@ here-makes form left left′ right right′ to x s s′ old new here writes ends
           let count : size u ≡ new = sym (length-flat u) ∙ sym (length-map (flat u) raw) ∙ ap length (sym made) ∙ row-table-length to ∙ omega (arith, lt) in
           here-made form k left left′ right right′ frames s s′ t h here u g to old new eo count ends fits el ed er same made lt e;
     }
+
+-- rows that are made already come to stand there
+pub fresh-makes : (form : ℕ → Form) (left right right′ fresh : List ℕ) (s s′ : Stand) (old new : ℕ) → s .here ≡ true → 0 < new → s .r ≤ rowCount right → new ≤ s .r + old → new ≤ rowCount fresh → s′ .l ≡ s .l → s′ .d ≡ s .d → s′ .r ≡ s .r + old - new
+    → Stands form right fresh s new → right′ ≡ take (8 * (s .r + old - new)) right ++ (take (8 * new) (drop 0 fresh) ++ drop (8 * (s .r + old - new) + 8 * new) right) → length right′ ≡ length right
+    → Makes form left left right right′ s s′ old new
+fresh-makes form left right right′ fresh s s′ old new here writes ends fits there el ed er stands e n =
+    record {
+      long = n;
+      changed = λ k frames t h u g turns.
+          let to = take (8 * new) fresh in
+          let lt : length to ≡ 8 * new = length-take-le (8 * new) fresh (omega (arith, there)) in
+          let made : rowTable to ≡ map raw (flat u) = row-table-take fresh new (omega (arith, there)) ∙ stands left frames k t h u g in
+          let count : size u ≡ new = sym (length-flat u) ∙ sym (length-map (flat u) raw) ∙ ap length (sym made) ∙ row-table-length to ∙ omega (arith, lt) in
+          here-made form k left left right right′ frames s s′ t h here u g to old new (turns .anew writes) count ends fits el ed er refl made lt e;
+    }
+
+-- they are all there
+pub fresh-there : (form : ℕ → Form) (left right frames fresh : List ℕ) (s : Stand) (old new : ℕ) → 0 < new → Turning form left right frames s old new → Stands form right fresh s new → new ≤ rowCount fresh
+fresh-there form left right frames fresh s old new writes g stands =
+    let T = g .trying in
+    let e = stands left frames (T .number) (T .whole) (T .halted) (g .made) (g .goes) in
+    let l = sym (length-take new (rowTable fresh)) ∙ ap length e ∙ length-map (flat (g .made)) raw ∙ length-flat (g .made) in
+    omega (arith, l, g .turns .sizes, g .turns .anew writes, row-table-length fresh)
+
+pub once-some : (form : ℕ → Form) (l to : List (List ℕ)) (old new : ℕ) → MadeAtOnce form l to (Made old new) → 0 < new
+unfolding MadeAtOnce
+once-some form l to old new (a, (u, e, b, c)) = omega (arith, b, size-some u)
+
+-- a rule that goes does not stay and sends nothing
+pub goes-against : (form : ℕ → Form) (left right frames : List ℕ) (s : Stand) → Trying form left right frames s → Tries form left right frames s Tried.Uncounted → (x : Tried) → Tries form left right frames s x → ((old new : ℕ) → x ≡ Tried.Goes old new → ⊥) → (x ≡ Tried.Uncounted → ⊥) → ⊥
+unfolding Tells
+goes-against form left right frames s try y Tried.Stays z g n =
+    let a = y (try .number) (try .whole) (try .halted) .1 .1 in
+    let b = z (try .number) (try .whole) (try .halted) in
+    let q : _≡_ {A = ℕ} 0 1 = ap (λ (o : Out). elim o [ stay ↦ 0 | go c v ↦ 1 ]) (sym b ∙ a) in
+    omega arith
+goes-against form left right frames s try y (Tried.Goes old new) z g n = g old new refl
+goes-against form left right frames s try y (Tried.Sends old) z g n =
+    let a = y (try .number) (try .whole) (try .halted) .1 .1 in
+    let b = z (try .number) (try .whole) (try .halted) .1 .2 in
+    let q : _≡_ {A = ℕ} 1 0 = ap (λ (o : Out). elim o [ stay ↦ 0 | go c v ↦ elim c [ none ↦ 0 | some d ↦ 1 ] ]) (sym b ∙ a) in
+    omega arith
+goes-against form left right frames s try y Tried.Uncounted z g n = n refl

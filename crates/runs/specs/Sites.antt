@@ -14,7 +14,7 @@ use Rattle.search.specs.Frames.{waits, Frame, below, around, Open}
 use Rattle.search.specs.Search.{Searching, Room, ahead}
 use Rattle.search.specs.declared.Stand.{Stand}
 use Rattle.runs.specs.declared.Tried.{Tried}
-use Rattle.runs.specs.declared.Tried.the-variants.{Stays, Goes, Sends}
+use Rattle.runs.specs.declared.Tried.the-variants.{Stays, Goes, Sends, Uncounted}
 
 -- at a row whose own rule is tried, or at the end of a frame whose rule comes last
 pub data Site : Bool → List Frame → List Tree → Tree → List Frame → List Tree → Type 0 where
@@ -48,10 +48,12 @@ pub record Turns (here : Bool) (t u : Tree) (old new : ℕ) : Type 0 where
   pub anew : 0 < new → size t ≡ old
   pub stands : new ≡ 0 → (here ≡ true) × (flat u ≡ drop old (flat t))
 
--- what a rule that is tried tells: it stays; or it goes, and so many rows give way to so many; or it sends, and its tree has so many
+-- what a rule that is tried tells: it stays; or it goes, and so many rows give way to so many; or it sends, and its tree has so many; or it goes
+-- at the search, and the rows are not counted yet
 unfoldable pub Tells : Tried → Bool → (ℕ → Form) → ℕ → Tree → Type 0
 Tells Stays here form k t = own form k t ≡ stay
 Tells (Goes old new) here form k t = (u : Tree) × (own form k t ≡ go none u) × Turns here t u old new
+Tells Uncounted here form k t = (here ≡ true) × ((u : Tree) × (own form k t ≡ go none u))
 Tells (Sends old) here form k t = (size t ≡ old) × ((c : Call) × (u : Tree) × (own form k t ≡ go (some c) u))
 
 -- Going on ----------------------------------------------------------------------------------------------------------

@@ -2,13 +2,14 @@
 use Prim.Native.Nat.{ℕ, _+_, _-_}
 use mathlib.Core.Path.{_≡_}
 use mathlib.Core.Bool.{Bool, cond}
-use mathlib.Core.List.{List, [], _∷_}
+use mathlib.Core.List.{List, [], _∷_, map}
 use mathlib.Core.Option.{none}
 use lib.Dec.{eqb, ltb}
-use lib.ListN.{length, getD}
+use lib.ListN.{length, getD, take}
 use Rattle.meaning.specs.Bytes.{_∧ᵇ_}
 use Rattle.meaning.specs.Types.{Form}
-use Rattle.meaning.specs.Terms.{Tree, size, top}
+use Rattle.meaning.specs.Terms.{Tree, flat, raw, size, top}
+use Rattle.layout.specs.Rows.{rowTable}
 use Rattle.meaning.specs.Steps.{go}
 use Rattle.meaning.proofs.Trees.EachRow.{Every}
 use Rattle.meaning.proofs.Bytes.RowTables.{legal}
@@ -47,6 +48,11 @@ pub record Going (form : ℕ → Form) (left right frames : List ℕ) (s : Stand
   pub goes : own form (trying .number) (trying .halted .tree) ≡ go none made
   pub rows : size (trying .halted .tree) ≡ old
   pub made-rows : size made ≡ new
+
+-- the rows of the tree that it makes at the search are at the front of a table
+abbrev pub Stands : (ℕ → Form) → List ℕ → List ℕ → Stand → ℕ → Type 0
+Stands form right fresh s new =
+    (left frames : List ℕ) (k : ℕ) (t : Tree) (h : Halted form k left right frames s t) (u : Tree) → own form k (h .tree) ≡ go none u → take new (rowTable fresh) ≡ map raw (flat u)
 
 -- it is carried out: the new tree stands in the place of the old one
 pub record Makes (form : ℕ → Form) (left left′ right right′ : List ℕ) (s s′ : Stand) (old new : ℕ) : Type 0 where

@@ -2,6 +2,7 @@
 use layout::Limits;
 use meaning::Answer;
 use meaning::Run;
+use put::Pass;
 use reduce::Outcome;
 use search::Stand;
 ghost use mathlib.Core.Path.{_≡_};
@@ -19,7 +20,8 @@ ghost use Rattle.meaning.proofs.Trees.EachRow.{Every};
 ghost use Rattle.meaning.proofs.Bytes.RowTables.{legal};
 ghost use Rattle.search.specs.Search.{Room};
 ghost use Rattle.runs.specs.Sites.{Whole, Passing, Halts, GoesOn, InRecord, CallsOut, Calling};
-ghost use Rattle.runs.specs.Tries.{Trying, Tries, Turning, Going, Makes, Steps, Found, atRoot, callBy};
+ghost use Rattle.runs.specs.Tries.{Trying, Tries, Turning, Going, Makes, Steps, Stands, Found, atRoot, callBy};
+ghost use Rattle.runs.specs.declared.Tried.the-variants.{Goes, Uncounted};
 ghost use Rattle.runs.specs.Going.{space, Begins, PutBack, letterFrom};
 ghost use Rattle.runs.specs.Loops.{TellsValue, SentOff, Ready};
 ghost use Rattle.meaning.specs.Records.{headSound, openCount};
@@ -50,12 +52,13 @@ const ARGUMENTS: usize = 16;
 // A letter has so many bytes less than the rows of its call.
 const LETTER_LESS: usize = 4;
 
-// What a rule that is tried tells: it stays; it goes, with the rows that give way and the new rows; it sends, with the rows of its tree. A tree that
-// stands already, behind some rows of the one that reduces, has no new rows.
+// What a rule that is tried tells: it stays; it goes, with the rows that give way and the new rows; it sends, with the rows of its tree; it goes, and
+// its rows are counted when they are made. A tree that stands already, behind some rows of the one that reduces, has no new rows.
 pub enum Tried {
     Stays,
     Goes(usize, usize),
     Sends(usize),
+    Uncounted,
 }
 
 // The record's rows go to the end of the work buffer: all of them are to come.
@@ -208,7 +211,7 @@ fn types_end(kept: &[u8]) -> usize
 // The rule of the tree at the search is tried on all its rows.
 fn try_whole(kept: &[u8], work: &[u8], s: Stand) -> Tried
     requires { ⌜ (20 + 36 * typeCount (now kept) ≤ length (now kept)) × (rowCount (now work) ≤ 4096) × (s .here ≡ true) × ((left : List ℕ) × (frames : List ℕ) × Trying (formOf (typesIn (now kept))) left (now work) frames s × Room left (now work) frames s × (rowCount (now work) - s .r ≤ 2048)) ⌝ }
-    ensures { λ x. ⌜ ((left : List ℕ) (frames : List ℕ) → Tries (formOf (typesIn (now (kept .entry)))) left (now (work .entry)) frames s x) ⌝ }
+    ensures { λ x. ⌜ ((left : List ℕ) (frames : List ℕ) → Tries (formOf (typesIn (now (kept .entry)))) left (now (work .entry)) frames s x) × (x ≡ Uncounted → ⊥) ⌝ }
 {
     let r = s.r;
     let n = terms::end_of(&work[layout::TERM_ROW * r..], 0);
@@ -234,6 +237,10 @@ fn try_here(kept: &[u8], work: &[u8], s: Stand) -> Tried
     let k = reduce::behind::rows_before(&work[layout::TERM_ROW * r..]);
     if 0 < k {
         return Tried::Goes(k, 0);
+    }
+    let e = types_end(kept);
+    if reduce::once::goes(&kept[layout::RECORD_HEAD..e], &work[layout::TERM_ROW * r..]) {
+        return Tried::Uncounted;
     }
     try_whole(kept, work, s)
 }
@@ -396,6 +403,114 @@ fn step(kept: &mut [u8], work: &mut [u8], frames: &[u32], m: Limits, s: Stand, c
     search::back_up(&kept[at..], work, frames, e)
 }
 
+// The rows that give way, how many come in their place, and whether those are made already.
+pub struct Fresh {
+    pub old: usize,
+    pub new: usize,
+    pub made: bool,
+}
+
+// The rule at the search makes its rows at once, into a table of their own; where it cannot, they are counted.
+fn make_fresh(kept: &[u8], work: &[u8], fresh: &mut [u8], s: Stand) -> Fresh
+    requires { ⌜ (20 + 36 * typeCount (now kept) ≤ length (now kept)) × (rowCount (now work) ≤ 4096) × (s .here ≡ true) × (length (now fresh) ≤ 32768) × ((left : List ℕ) × (frames : List ℕ) × Trying (formOf (typesIn (now kept))) left (now work) frames s × Room left (now work) frames s × (rowCount (now work) - s .r ≤ 2048) × Tries (formOf (typesIn (now kept))) left (now work) frames s Uncounted) ⌝ }
+    ensures { λ x. ⌜ ((left : List ℕ) (frames : List ℕ) → Tries (formOf (typesIn (now (kept .entry)))) left (now (work .entry)) frames s (Goes (x .old) (x .new))) × (x .made ≡ true → (0 < x .new) × Stands (formOf (typesIn (now (kept .entry)))) (now (work .entry)) (now (fresh .exit)) s (x .new)) ⌝ }
+{
+    let r = s.r;
+    let e = types_end(kept);
+    let p = reduce::once::make(
+        &kept[layout::RECORD_HEAD..e],
+        &work[layout::TERM_ROW * r..],
+        fresh,
+    );
+    match p {
+        Pass::Made(old, new) => Fresh {
+            old: old,
+            new: new,
+            made: true,
+        },
+        Pass::Unknown => {
+            let x = try_whole(kept, work, s);
+            match x {
+                Tried::Goes(old, new) => Fresh {
+                    old: old,
+                    new: new,
+                    made: false,
+                },
+                Tried::Stays => Fresh {
+                    old: 0,
+                    new: 0,
+                    made: false,
+                },
+                Tried::Sends(n) => Fresh {
+                    old: 0,
+                    new: 0,
+                    made: false,
+                },
+                Tried::Uncounted => Fresh {
+                    old: 0,
+                    new: 0,
+                    made: false,
+                },
+            }
+        }
+    }
+}
+
+// Rows that are made already come to stand where the tree at the search ended.
+fn move_fresh(work: &mut [u8], fresh: &[u8], s: Stand, x: Fresh) -> Stand
+    requires { ⌜ (s .here ≡ true) × (0 < x .new) × (s .r + x .old ≤ rowCount (now work)) × (rowCount (now work) ≤ 4096) × (x .new ≤ s .r + x .old) × (x .new ≤ rowCount (now fresh)) ⌝ }
+    ensures { λ e. ⌜ ((form : ℕ → Form) (left : List ℕ) → Stands form (now (work .entry)) (now (fresh .entry)) s (x .new) → Makes form left left (now (work .entry)) (now (work .exit)) s e (x .old) (x .new)) ⌝ }
+{
+    let new = x.new;
+    let a = s.r + x.old - new;
+    layout::copy_to(work, layout::TERM_ROW * a, fresh, 0, layout::TERM_ROW * new);
+    Stand {
+        l: s.l,
+        r: a,
+        d: s.d,
+        here: false,
+    }
+}
+
+// Where the search has stopped, and what the rule there makes.
+pub struct Place {
+    pub s: Stand,
+    pub x: Fresh,
+}
+
+// A step whose rows may be made already.
+fn step_fresh(
+    kept: &mut [u8],
+    work: &mut [u8],
+    frames: &[u32],
+    fresh: &[u8],
+    m: Limits,
+    p: Place,
+) -> Stand
+    requires { ⌜ (length (now kept) ≡ recordBytes (board m)) × (typeCount (now kept) ≤ m .types) × (m .rows ≤ 2048) × (p .s .l + (rowCount (now work) - p .s .r) ≤ m .rows) × (m .rows + 2 ≤ rowCount (now work)) × (p .s .l + (rowCount (now work) - p .s .r) + p .x .new ≤ m .rows + p .x .old) × (m .rows ≤ length (now frames)) × Room (space (board m) (now kept)) (now work) (now frames) (p .s) × Turning (formOf (typesIn (now kept))) (space (board m) (now kept)) (now work) (now frames) (p .s) (p .x .old) (p .x .new) × (p .x .made ≡ true → (p .s .here ≡ true) × (0 < p .x .new) × Stands (formOf (typesIn (now kept))) (now work) (now fresh) (p .s) (p .x .new)) ⌝ }
+    ensures { λ e. ⌜ InRecord (board m) (now (kept .entry)) (now (kept .exit)) × Steps (formOf (typesIn (now (kept .entry)))) (space (board m) (now (kept .entry))) (space (board m) (now (kept .exit))) (now (work .entry)) (now (work .exit)) (now (frames .entry)) (p .s) e (p .x .old) (p .x .new) ⌝ }
+{
+    let s = p.s;
+    let x = p.x;
+    let made = x.made;
+    if made {
+        let e = move_fresh(work, fresh, s, x);
+        let at = layout::rows_at(m);
+        return search::back_up(&kept[at..], work, frames, e);
+    }
+    step(
+        kept,
+        work,
+        frames,
+        m,
+        s,
+        Change {
+            old: x.old,
+            new: x.new,
+        },
+    )
+}
+
 // Where a search has come to, and what the rule there does.
 pub struct Next {
     pub s: Stand,
@@ -443,6 +558,12 @@ fn next_step(kept: &mut [u8], work: &[u8], frames: &mut [u32], m: Limits, start:
                     };
                 }
                 s = stay_on(kept, work, frames, m, e);
+            }
+            Tried::Uncounted => {
+                return Next {
+                    s: e,
+                    tried: Tried::Uncounted,
+                };
             }
         }
     }
@@ -502,6 +623,7 @@ fn go(kept: &mut [u8], work: &mut [u8], frames: &mut [u32], m: Limits, budget: u
     requires { ⌜ Ready (board m) (now kept) (now work) (now frames) ⌝ }
     ensures { λ r. ⌜ RunSays (board m) (now (kept .entry)) (now (work .entry)) budget r (now (kept .exit)) (now (work .exit)) ⌝ }
 {
+    let mut fresh = [0u8; 8192];
     let mut s = begin(kept, work, m);
     let mut made: u32 = 0;
     loop {
@@ -548,6 +670,17 @@ fn go(kept: &mut [u8], work: &mut [u8], frames: &mut [u32], m: Limits, budget: u
                     },
                 );
                 return Run::Ran(Answer::Sent(next), made + 1);
+            }
+            Tried::Uncounted => {
+                let f = make_fresh(kept, work, &mut fresh, at);
+                if spare(work, m, at, f.old) < f.new {
+                    return halt(kept, work, m, at, Answer::Room, made);
+                }
+                if made == budget {
+                    return halt(kept, work, m, at, Answer::Budget, made);
+                }
+                s = step_fresh(kept, work, frames, &fresh, m, Place { s: at, x: f });
+                made += 1;
             }
         }
     }

@@ -1,5 +1,6 @@
-use Prim.Native.Nat.{ℕ, _+_, _-_, _≤_, _<_}
-use mathlib.Core.Path.{_≡_, refl, ap, sym, _∙_}
+-- The loop's invariant: the names so far are the function's.
+use Prim.Native.Nat.{ℕ, _-_, _≤_, _<_}
+use mathlib.Core.Path.{_≡_, refl, sym, _∙_}
 use mathlib.Core.Bool.{true, false≢true}
 use native.Mathlib.Omega.{arith}
 use lib.ListN.{length, getD}
@@ -10,10 +11,6 @@ use Rattle.put.specs.Put.{told}
 use Rattle.put.proofs.Once.{among-more}
 use Rattle.put.proofs.binds_all.Statement.{statement}
 use Rattle.put.proofs.binds_all.Tie as tie
-use Rattle.put.proofs.binds_all.Reads as reads
-use Rattle.put.proofs.binds_all.Lts as lts
-use Rattle.put.proofs.param_count.Reads as param-count-reads
-use Rattle.put.proofs.param_name.Reads as param-name-reads
 
 abbrev Inv-loop : tie.InvT-loop
 Inv-loop types names t n k₀ k = (k ≤ n) × (n ≡ length names) × (n ≤ length (params (formOf (typeTable types) t))) × ((j : ℕ) → j < k → told (find (params (formOf (typeTable types) t)) (getD names j 0)) ≡ true)

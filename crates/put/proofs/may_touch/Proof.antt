@@ -1,11 +1,10 @@
+-- A word in the range is near enough.
 use mathlib.Core.Path.{sym}
 use mathlib.Core.Bool.{false≢true}
 use Rattle.put.proofs.Once.{not-far}
 use borrow.Author.Needs.{needs}
 use Rattle.put.proofs.may_touch.Statement.{statement}
 use Rattle.put.proofs.may_touch.Tie as tie
-use Rattle.put.proofs.may_touch.Reads as reads
-use Rattle.put.proofs.may_touch.Lts as lts
 
 pub may-touch-spec : {M : Type 1} → statement M
 may-touch-spec =

@@ -1,3 +1,4 @@
+-- The loop's invariant: the rows written, those that stand before the next row, and those left to write are all.
 use Prim.Native.Nat.{ℕ, _+_, _-_}
 use mathlib.Core.Path.{_≡_, refl, ap, _∙_}
 use native.Mathlib.Omega.{arith}
@@ -14,17 +15,6 @@ use Rattle.put.proofs.Rows.{row-read, row-in}
 use Rattle.put.proofs.Once.{Onward, onward-start, onward-end, onward-last, onward-in, onward-stands, onward-span, onward-puts, tree-in, onward-tree, out-bare, out-chosen, turn-stands, turn-whole, turn-puts}
 use Rattle.put.proofs.put_once.Statement.{statement}
 use Rattle.put.proofs.put_once.Tie as tie
-use Rattle.put.proofs.put_once.Reads as reads
-use Rattle.put.proofs.put_once.Lts as lts
-use Rattle.layout.proofs.row_at.Reads as row-at-reads
-use Rattle.layout.proofs.term_rows.Reads as term-rows-reads
-use Rattle.put.proofs.copy_both.Reads as copy-both-reads
-use Rattle.put.proofs.copy_rows.Reads as copy-rows-reads
-use Rattle.put.proofs.may_touch.Reads as may-touch-reads
-use Rattle.put.proofs.range_of.Reads as range-of-reads
-use Rattle.put.proofs.turn_at.Reads as turn-at-reads
-use Rattle.terms.proofs.children.Reads as children-reads
-use Rattle.terms.proofs.end_of.Reads as end-of-reads
 
 abbrev Inv-loop : tie.InvT-loop
 Inv-loop types rows body names bounds to₀ room x owed₀ i₀ from₀ w₀ to owed i from w = Onward (formOf (typeTable types)) (rowTable rows) body names bounds (rowTable to) owed i from w × (length to ≡ length to₀)

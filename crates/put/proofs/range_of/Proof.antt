@@ -1,5 +1,6 @@
-use Prim.Native.Nat.{ℕ, _+_, _-_, _≤_, _<_}
-use mathlib.Core.Path.{_≡_, refl, ap, sym, subst}
+-- The loop's invariant: the names so far are in the range.
+use Prim.Native.Nat.{ℕ, _-_, _≤_, _<_}
+use mathlib.Core.Path.{_≡_, refl, subst}
 use native.Mathlib.Omega.{arith}
 use lib.ListN.{length, getD}
 use borrow.Author.Needs.{needs}
@@ -7,10 +8,6 @@ use Rattle.put.specs.Put.{Widens}
 use Rattle.put.proofs.Once.{within-more}
 use Rattle.put.proofs.range_of.Statement.{statement}
 use Rattle.put.proofs.range_of.Tie as tie
-use Rattle.put.proofs.range_of.Reads as reads
-use Rattle.put.proofs.range_of.Lts as lts
-use Rattle.layout.proofs.wide.Reads as wide-reads
-use Rattle.put.proofs.widen.Reads as widen-reads
 
 abbrev Inv-loop : tie.InvT-loop
 Inv-loop names n y x₀ k₀ x k = (k ≤ n) × (1 ≤ k) × (n ≡ length names) × (x .low ≤ x .high) × (x .high ≤ 65535) × ((j : ℕ) → j < k → (x .low ≤ getD names j 0) × (getD names j 0 ≤ x .high))

@@ -1,3 +1,4 @@
+-- By the row and its names.
 use mathlib.Core.Path.{ap, sym, _∙_}
 use native.Mathlib.Omega.{arith}
 use Rattle.layout.specs.Rows.{found, typeTable}
@@ -11,12 +12,6 @@ use Rattle.put.proofs.Once.{all-shut}
 use borrow.Author.Needs.{needs}
 use Rattle.put.proofs.turn_at.Statement.{statement}
 use Rattle.put.proofs.turn_at.Tie as tie
-use Rattle.put.proofs.turn_at.Reads as reads
-use Rattle.put.proofs.turn_at.Lts as lts
-use Rattle.layout.proofs.wide.Reads as wide-reads
-use Rattle.put.proofs.binds_all.Reads as binds-all-reads
-use Rattle.put.proofs.hides_some.Reads as hides-some-reads
-use Rattle.put.proofs.place_of.Reads as place-of-reads
 
 pub turn-at-spec : {M : Type 1} → statement M
 turn-at-spec =

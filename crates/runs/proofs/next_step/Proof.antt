@@ -8,7 +8,7 @@ use Rattle.search.specs.Search.{ahead}
 use Rattle.runs.specs.Going.{space}
 use Rattle.runs.specs.Tries.{Tries}
 use Rattle.runs.specs.declared.Tried.{Tried}
-use Rattle.runs.proofs.Finds.{Went, went-nowhere, came-to, came-count, came-rows, came-trying, found, stays-inside, stayed-on, goes-not-stays, sends-not-stays}
+use Rattle.runs.proofs.Finds.{Went, went-nowhere, came-to, came-count, came-rows, came-trying, found, stays-inside, stayed-on, goes-not-stays, sends-not-stays, uncounted-not-stays}
 use borrow.Author.Needs.{needs}
 use Rattle.runs.proofs.next_step.Statement.{statement}
 use Rattle.runs.proofs.next_step.Tie as tie
@@ -223,4 +223,45 @@ next-step-spec =
     let q = c .before .before .before .before .before .before .before .before .before .enum-told .given .1 in
     let r = sym (c .before .before .before .before .before .before .before .before .at-root .ensures) ∙ c .before .before .before .before .before .before .before .if1 .left in
     let on = c .before .before .before .before .stay-on in
-    stayed-on mb (args .kept .now) kept1 (args .work .now) (args .frames .now) frames1 (args .start) (seek .result) few came (try .result) (try .ensures) q r (on .last .0) (on .last .1 .1 .0) (on .result) (on .ensures .0) (on .kept .1 .1 .0) (on .ensures .1)))
+    stayed-on mb (args .kept .now) kept1 (args .work .now) (args .frames .now) frames1 (args .start) (seek .result) few came (try .result) (try .ensures) q r (on .last .0) (on .last .1 .1 .0) (on .result) (on .ensures .0) (on .kept .1 .1 .0) (on .ensures .1))
+    (λ c. search needs)
+    -- same-length-7
+    (λ c.
+    let args = c .before .before .before .before .before .before .before .before .before .before .before .before .before .before .before .before .args in
+    let pre = c .before .before .before .before .before .before .before .before .before .before .before .before .before .before .before .before .pre in
+    let mb = board (args .m) in
+    let few = pre .1 in
+    let there = pre .5 in
+    let loop = c .before .before .before .before .before .before .before .before .before .before .before .before .loop in
+    let seek = c .before .before .before .before .before .before .before .before .before .seek-in in
+    let kept1 = seek .last .0 in
+    let frames1 = seek .last .1 .1 .0 in
+    let came = came-to mb (args .kept .now) (loop .kept) kept1 (args .work .now) (args .frames .now) (loop .frames) frames1 (args .start) (loop .s) (seek .result) (loop .inv) (seek .ensures .0) (seek .kept .1 .1 .0) (seek .ensures .1) in
+    came .in-record .long)
+    -- same-length-8
+    (λ c.
+    let args = c .before .before .before .before .before .before .before .before .before .before .before .before .before .before .before .before .args in
+    let pre = c .before .before .before .before .before .before .before .before .before .before .before .before .before .before .before .before .pre in
+    let mb = board (args .m) in
+    let few = pre .1 in
+    let there = pre .5 in
+    let loop = c .before .before .before .before .before .before .before .before .before .before .before .before .loop in
+    let seek = c .before .before .before .before .before .before .before .before .before .seek-in in
+    let kept1 = seek .last .0 in
+    let frames1 = seek .last .1 .1 .0 in
+    let came = came-to mb (args .kept .now) (loop .kept) kept1 (args .work .now) (args .frames .now) (loop .frames) frames1 (args .start) (loop .s) (seek .result) (loop .inv) (seek .ensures .0) (seek .kept .1 .1 .0) (seek .ensures .1) in
+    came .frames-long)
+    -- returns-4
+    (λ c.
+    let args = c .before .before .before .before .before .before .before .before .before .before .before .before .before .before .before .before .args in
+    let pre = c .before .before .before .before .before .before .before .before .before .before .before .before .before .before .before .before .pre in
+    let mb = board (args .m) in
+    let few = pre .1 in
+    let there = pre .5 in
+    let loop = c .before .before .before .before .before .before .before .before .before .before .before .before .loop in
+    let seek = c .before .before .before .before .before .before .before .before .before .seek-in in
+    let kept1 = seek .last .0 in
+    let frames1 = seek .last .1 .1 .0 in
+    let came = came-to mb (args .kept .now) (loop .kept) kept1 (args .work .now) (args .frames .now) (loop .frames) frames1 (args .start) (loop .s) (seek .result) (loop .inv) (seek .ensures .0) (seek .kept .1 .1 .0) (seek .ensures .1) in
+    let try = c .before .before .try-rule in
+    (came .in-record, found mb (args .kept .now) kept1 (args .work .now) (args .frames .now) frames1 (args .start) (seek .result) few came _ (subst (λ (x : Tried). Tries (formOf (typesIn kept1)) (space mb kept1) (args .work .now) frames1 (seek .result) x) (c .enum-told2 .given .1) (try .ensures)) there uncounted-not-stays)))

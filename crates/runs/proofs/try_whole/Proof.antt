@@ -12,6 +12,7 @@ use Rattle.search.proofs.Tables.{lent-length, lent-tree}
 use Rattle.meaning.specs.Records.{typesIn}
 use Rattle.runs.specs.Sites.{Tells}
 use Rattle.runs.proofs.Tries.{lent-types, here-fits, here-tree, here-redex, here-stays, here-turns}
+use Rattle.runs.proofs.Finds.{stays-not-uncounted, goes-not-uncounted}
 use borrow.Author.Needs.{needs}
 use Rattle.runs.proofs.try_whole.Statement.{statement}
 use Rattle.runs.proofs.try_whole.Tie as tie
@@ -93,10 +94,12 @@ try-whole-spec =
     let form = formOf (typesIn (args .kept .now)) in
     let x = take (8 * args .s .r + 8 * n - 8 * args .s .r) (drop (8 * args .s .r) (args .work .now)) in
     let types = lent-types (args .kept .now) (c .before .before .before .before .before .types-end .result) (c .before .before .before .before .before .types-end .ensures) (pre .0) in
-    let o = c .before .before .count .ensures ∙ ap (λ (l : List (List ℕ)). sizeIf (ruleOf (formOf l) (treeOf (termRows x)))) types in
-    λ left frames k t h.
-    let q : n ≡ size (h .tree) = omega (arith, c .before .before .before .before .before .before .end-of .ensures, ap size (lent-tree (args .work .now) y (args .s .r) g refl ∙ here-tree form k left (args .work .now) frames (args .s) t h (pre .2))) in
-    here-stays form k left (args .work .now) frames (args .s) t h (pre .2) n x q (ap (λ (i : ℕ). take i (drop (8 * args .s .r) (args .work .now))) z) (w .3 .ends) (sym (ap told (c .enum-told .given .1)) ∙ o)))
+    let o = c .before .before .count .ensures ∙ ap (λ (l : List (List ℕ)). sizeIf (ruleOf (formOf l) (treeOf (termRows x)))) types in (
+      λ left frames k t h.
+          let q : n ≡ size (h .tree) = omega (arith, c .before .before .before .before .before .before .end-of .ensures, ap size (lent-tree (args .work .now) y (args .s .r) g refl ∙ here-tree form k left (args .work .now) frames (args .s) t h (pre .2))) in
+          here-stays form k left (args .work .now) frames (args .s) t h (pre .2) n x q (ap (λ (i : ℕ). take i (drop (8 * args .s .r) (args .work .now))) z) (w .3 .ends) (sym (ap told (c .enum-told .given .1)) ∙ o),
+      stays-not-uncounted,
+    )))
     -- returns-2
     (λ c. unfold Tells in (
     let args = c .before .before .before .before .before .before .before .before .before .before .before .args in
@@ -109,7 +112,9 @@ try-whole-spec =
     let form = formOf (typesIn (args .kept .now)) in
     let x = take (8 * args .s .r + 8 * n - 8 * args .s .r) (drop (8 * args .s .r) (args .work .now)) in
     let types = lent-types (args .kept .now) (c .before .before .before .before .before .before .types-end .result) (c .before .before .before .before .before .before .types-end .ensures) (pre .0) in
-    let o = c .before .before .before .count .ensures ∙ ap (λ (l : List (List ℕ)). sizeIf (ruleOf (formOf l) (treeOf (termRows x)))) types in
-    λ left frames k t h.
-    let q : n ≡ size (h .tree) = omega (arith, c .before .before .before .before .before .before .before .end-of .ensures, ap size (lent-tree (args .work .now) y (args .s .r) g refl ∙ here-tree form k left (args .work .now) frames (args .s) t h (pre .2))) in
-    here-turns form k left (args .work .now) frames (args .s) t h (pre .2) n x q (ap (λ (i : ℕ). take i (drop (8 * args .s .r) (args .work .now))) z) (w .3 .ends) (c .before .o .given .0 .0) (sym (ap told (c .before .o .given .1)) ∙ o))))
+    let o = c .before .before .before .count .ensures ∙ ap (λ (l : List (List ℕ)). sizeIf (ruleOf (formOf l) (treeOf (termRows x)))) types in (
+      λ left frames k t h.
+          let q : n ≡ size (h .tree) = omega (arith, c .before .before .before .before .before .before .before .end-of .ensures, ap size (lent-tree (args .work .now) y (args .s .r) g refl ∙ here-tree form k left (args .work .now) frames (args .s) t h (pre .2))) in
+          here-turns form k left (args .work .now) frames (args .s) t h (pre .2) n x q (ap (λ (i : ℕ). take i (drop (8 * args .s .r) (args .work .now))) z) (w .3 .ends) (c .before .o .given .0 .0) (sym (ap told (c .before .o .given .1)) ∙ o),
+      goes-not-uncounted _ _,
+    ))))

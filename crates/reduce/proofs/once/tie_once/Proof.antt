@@ -23,29 +23,29 @@ tie-once-spec =
     tie.close
     (tie.spec
     -- returns
-    (λ c.   
-      let s = c .before .before .before .before in
-      let T = rowTable (s .args .rows .now) in
-      let R = s .pre .0 in
-      unknown-once (formOf (typeTable (s .args .types .now))) T _)
+    (λ c.
+    let s = c .before .before .before .before in
+    let T = rowTable (s .args .rows .now) in
+    let R = s .pre .0 in
+    unknown-once (formOf (typeTable (s .args .types .now))) T _)
     -- row-of-requires
-    (λ c κs.   
-      let s = c .before .before .before .before in
-      let T = rowTable (s .args .rows .now) in
-      let R = s .pre .0 in
-      some-row T (R .inside))
+    (λ c κs.
+    let s = c .before .before .before .before in
+    let T = rowTable (s .args .rows .now) in
+    let R = s .pre .0 in
+    some-row T (R .inside))
     -- end-of-requires
-    (λ c κs.   
-      let s = c .before .before .before .before .before in
-      let T = rowTable (s .args .rows .now) in
-      let R = s .pre .0 in
-      (omega (arith, R .few, row-table-length (s .args .rows .now)), omega (arith, R .inside, ap size (tree-at-zero (termRows (s .args .rows .now))), row-table-length (s .args .rows .now))))
+    (λ c κs.
+    let s = c .before .before .before .before .before in
+    let T = rowTable (s .args .rows .now) in
+    let R = s .pre .0 in
+    (omega (arith, R .few, row-table-length (s .args .rows .now)), omega (arith, R .inside, ap size (tree-at-zero (termRows (s .args .rows .now))), row-table-length (s .args .rows .now))))
     -- tie-puts-requires
-    (λ c κs.   
-      let s = c .before .before .before .before .before .before in
-      let T = rowTable (s .args .rows .now) in
-      let R = s .pre .0 in
-      (R, s .pre .1, c .end-of .ensures ∙ omega (arith, ap size (tree-at-zero (termRows (s .args .rows .now))))))
+    (λ c κs.
+    let s = c .before .before .before .before .before .before in
+    let T = rowTable (s .args .rows .now) in
+    let R = s .pre .0 in
+    (R, s .pre .1, c .end-of .ensures ∙ omega (arith, ap size (tree-at-zero (termRows (s .args .rows .now))))))
     (λ c κs. search needs)
     (λ c. search needs)
     (λ c. search needs)
@@ -53,30 +53,30 @@ tie-once-spec =
     (λ c κs. search needs)
     (λ c. search needs)
     -- add-t20
-    (λ c.   
-      let s = c .before .before .before .before .before .before .before .before .before .before .before .before .before .before .before .before .before .before in
-      let T = rowTable (s .args .rows .now) in
-      let R = s .pre .0 in
-      omega (arith, pass-few (formOf (typeTable (s .args .types .now))) T _ _ _ _ _ _ _ (R .few) (c .before .before .before .before .before .put-puts .ensures) (c .before .x .given .1)))
+    (λ c.
+    let s = c .before .before .before .before .before .before .before .before .before .before .before .before .before .before .before .before .before .before in
+    let T = rowTable (s .args .rows .now) in
+    let R = s .pre .0 in
+    omega (arith, pass-few (formOf (typeTable (s .args .types .now))) T _ _ _ _ _ _ _ (R .few) (c .before .before .before .before .before .put-puts .ensures) (c .before .x .given .1)))
     (λ c. search needs)
     (λ c. search needs)
     -- returns-2
-    (λ c.   
-      let s = c .before .before .before .before .before .before .before .before .before .before .before .before .before .before .before .before .before .before in
-      let T = rowTable (s .args .rows .now) in
-      let R = s .pre .0 in
-      let F = formOf (typeTable (s .args .types .now)) in
-      let u = c .before .before .before .before .before .before .before .before .before .write-row .last .0 in
-      let k : length u ≡ length (s .args .to .now) = c .before .before .before .before .before .before .before .before .before .write-row .kept .0 in
-      let x : List ℕ = 6 ∷ 0 ∷ c .before .before .before .before .before .before .before .before .before .before .before .before .before .row-of .result .ty ∷ 0 ∷ [] in
-      let f = filled-row (rowTable (s .args .to .now)) (rowTable u) [] 0 x refl (omega (arith, c .before .before .before .before .before .before .before .before .before .before .before .before .before .before .if1 .left, row-table-length (s .args .to .now))) (c .before .before .before .before .before .before .before .before .before .write-row .ensures) in
-      let g = f ∙ ap (λ (t : ℕ). (6 ∷ 0 ∷ t ∷ 0 ∷ []) ∷ []) (sym (ap (λ (r : List ℕ). typeNo r) (c .before .before .before .before .before .before .before .before .before .before .before .before .before .row-of .ensures))) in
-      let e = tail-lent u (c .before .before .before .before .before .put-puts .last .1 .1 .1 .0) (tieRow T) _ (length u - 8) (omega (arith, c .before .before .before .before .before .before .before .before .before .before .before .before .before .before .if1 .left, k)) g refl (omega arith) in
-      tied-once F T _ _ (c .before .before .before .before .before .before .before .before .before .before .before .tie-puts .ensures) _ _ _ _ _ (c .before .before .before .before .before .put-puts .ensures) (c .before .x .given .1) e (c .before .before .before .before .before .before .before .before .before .before .before .before .end-of .ensures ∙ omega (arith, ap size (tree-at-zero (termRows (s .args .rows .now))))))
+    (λ c.
+    let s = c .before .before .before .before .before .before .before .before .before .before .before .before .before .before .before .before .before .before in
+    let T = rowTable (s .args .rows .now) in
+    let R = s .pre .0 in
+    let F = formOf (typeTable (s .args .types .now)) in
+    let u = c .before .before .before .before .before .before .before .before .before .write-row .last .0 in
+    let k : length u ≡ length (s .args .to .now) = c .before .before .before .before .before .before .before .before .before .write-row .kept .0 in
+    let x : List ℕ = 6 ∷ 0 ∷ c .before .before .before .before .before .before .before .before .before .before .before .before .before .row-of .result .ty ∷ 0 ∷ [] in
+    let f = filled-row (rowTable (s .args .to .now)) (rowTable u) [] 0 x refl (omega (arith, c .before .before .before .before .before .before .before .before .before .before .before .before .before .before .if1 .left, row-table-length (s .args .to .now))) (c .before .before .before .before .before .before .before .before .before .write-row .ensures) in
+    let g = f ∙ ap (λ (t : ℕ). (6 ∷ 0 ∷ t ∷ 0 ∷ []) ∷ []) (sym (ap (λ (r : List ℕ). typeNo r) (c .before .before .before .before .before .before .before .before .before .before .before .before .before .row-of .ensures))) in
+    let e = tail-lent u (c .before .before .before .before .before .put-puts .last .1 .1 .1 .0) (tieRow T) _ (length u - 8) (omega (arith, c .before .before .before .before .before .before .before .before .before .before .before .before .before .before .if1 .left, k)) g refl (omega arith) in
+    tied-once F T _ _ (c .before .before .before .before .before .before .before .before .before .before .before .tie-puts .ensures) _ _ _ _ _ (c .before .before .before .before .before .put-puts .ensures) (c .before .x .given .1) e (c .before .before .before .before .before .before .before .before .before .before .before .before .end-of .ensures ∙ omega (arith, ap size (tree-at-zero (termRows (s .args .rows .now))))))
     (λ c. search needs)
     -- returns-3
-    (λ c.   
-      let s = c .before .before .before .before .before .before .before .before .before .before .before .before .before .before .before .before .before in
-      let T = rowTable (s .args .rows .now) in
-      let R = s .pre .0 in
-      unknown-once (formOf (typeTable (s .args .types .now))) T _))
+    (λ c.
+    let s = c .before .before .before .before .before .before .before .before .before .before .before .before .before .before .before .before .before in
+    let T = rowTable (s .args .rows .now) in
+    let R = s .pre .0 in
+    unknown-once (formOf (typeTable (s .args .types .now))) T _))

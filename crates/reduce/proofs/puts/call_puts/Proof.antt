@@ -73,9 +73,10 @@ returns c =
     let i : nNo (rowNo T 0) ≡ c .before .before .before .before .before .before .before .before .before .before .row-of .result .n = ap (λ (r : List ℕ). nNo r) (c .before .before .before .before .before .before .before .before .before .before .row-of .ensures) in
     let u : typeNo (rowNo T 1) ≡ c .before .before .before .before .before .before .before .before .before .row-of2 .result .ty = ap (λ (r : List ℕ). typeNo r) (c .before .before .before .before .before .before .before .before .before .row-of2 .ensures) in
     let ln : c .before .before .before .before .before .before .least .result ≡ min (length (params (F (typeNo (rowNo T 1))))) (nNo (rowNo T 0)) = c .before .before .before .before .before .before .least .ensures ∙ ap (λ (x : ℕ). min x (c .before .before .before .before .before .before .before .before .before .before .row-of .result .n)) (c .before .before .before .before .before .before .before .before .param-count .ensures .0 ∙ ap (λ (t : ℕ). length (params (F t))) (sym u)) ∙ ap (λ (x : ℕ). min (length (params (F (typeNo (rowNo T 1))))) x) (sym i) in
-    let n = c .before .before .before .before .before .before .least .result in
-    (call-puts T (R .exact) (R .inside) short F (s .args .first) (s .pre .1) _ _ _ ln (omega (arith, c .before .before .before .before .before .before .least .ensures, c .before .before .before .before .before .before .before .before .param-count .ensures .1)) (c .before .before .before .before .fill-names .ensures ∙ ap (λ (t : ℕ). take (c .before .before .before .before .before .before .least .result) (names (params (F t)))) (sym u)) (c .before .before .before .before .fill-names .kept .1 .1 .1 .0) (c .before .fill-bounds .kept .1 .1 .1 .0) (c .before .fill-bounds .ensures),
-    λ q. c .before .fill-bounds .ensures n (omega arith) ∙ ap (λ (x : ℕ). s .args .first + sizes (grove L (s .args .first) x)) q ∙ args-whole T (R .exact) (R .inside) (s .pre .1 .0) (s .pre .1 .1) (s .args .first) (s .pre .1 .2))
+    let n = c .before .before .before .before .before .before .least .result in (
+      call-puts T (R .exact) (R .inside) short F (s .args .first) (s .pre .1) _ _ _ ln (omega (arith, c .before .before .before .before .before .before .least .ensures, c .before .before .before .before .before .before .before .before .param-count .ensures .1)) (c .before .before .before .before .fill-names .ensures ∙ ap (λ (t : ℕ). take (c .before .before .before .before .before .before .least .result) (names (params (F t)))) (sym u)) (c .before .before .before .before .fill-names .kept .1 .1 .1 .0) (c .before .fill-bounds .kept .1 .1 .1 .0) (c .before .fill-bounds .ensures),
+      λ q. c .before .fill-bounds .ensures n (omega arith) ∙ ap (λ (x : ℕ). s .args .first + sizes (grove L (s .args .first) x)) q ∙ args-whole T (R .exact) (R .inside) (s .pre .1 .0) (s .pre .1 .1) (s .args .first) (s .pre .1 .2),
+    )
 
 pub call-puts-spec : {M : Type 1} → statement M
 call-puts-spec =
