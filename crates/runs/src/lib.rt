@@ -393,14 +393,44 @@ fn make_rule(kept: &mut [u8], work: &mut [u8], m: Limits, s: Stand, c: Change) -
     make_end(kept, work, m, s, c.old, new)
 }
 
-// A step: the rule where the search has stopped is carried out, and the search goes on at the new tree, or at the row around it if nothing else of that was passed.
-fn step(kept: &mut [u8], work: &mut [u8], frames: &[u32], m: Limits, s: Stand, c: Change) -> Stand
+// The rule where the search has stopped is carried out, and the search goes on at the new tree, or at the row around it if nothing else of that was passed.
+fn step_anew(kept: &mut [u8], work: &mut [u8], frames: &[u32], m: Limits, s: Stand, c: Change) -> Stand
     requires { ⌜ (length (now kept) ≡ recordBytes (board m)) × (typeCount (now kept) ≤ m .types) × (m .rows ≤ 2048) × (s .l + (rowCount (now work) - s .r) ≤ m .rows) × (m .rows + 2 ≤ rowCount (now work)) × (s .l + (rowCount (now work) - s .r) + c .new ≤ m .rows + c .old) × (m .rows ≤ length (now frames)) × Room (space (board m) (now kept)) (now work) (now frames) s × Turning (formOf (typesIn (now kept))) (space (board m) (now kept)) (now work) (now frames) s (c .old) (c .new) ⌝ }
     ensures { λ e. ⌜ InRecord (board m) (now (kept .entry)) (now (kept .exit)) × Steps (formOf (typesIn (now (kept .entry)))) (space (board m) (now (kept .entry))) (space (board m) (now (kept .exit))) (now (work .entry)) (now (work .exit)) (now (frames .entry)) s e (c .old) (c .new) ⌝ }
 {
     let e = make_rule(kept, work, m, s, c);
     let at = layout::rows_at(m);
     search::back_up(&kept[at..], work, frames, e)
+}
+
+// The same where the new tree stands already.
+fn step_over(kept: &[u8], work: &mut [u8], frames: &[u32], m: Limits, s: Stand, c: Change) -> Stand
+    requires { ⌜ (c .new ≡ 0) × (length (now kept) ≡ recordBytes (board m)) × (typeCount (now kept) ≤ m .types) × (m .rows ≤ 2048) × (s .l + (rowCount (now work) - s .r) ≤ m .rows) × (m .rows + 2 ≤ rowCount (now work)) × (s .l + (rowCount (now work) - s .r) + c .new ≤ m .rows + c .old) × (m .rows ≤ length (now frames)) × Room (space (board m) (now kept)) (now work) (now frames) s × Turning (formOf (typesIn (now kept))) (space (board m) (now kept)) (now work) (now frames) s (c .old) (c .new) ⌝ }
+    ensures { λ e. ⌜ Steps (formOf (typesIn (now (kept .entry)))) (space (board m) (now (kept .entry))) (space (board m) (now (kept .entry))) (now (work .entry)) (now (work .exit)) (now (frames .entry)) s e (c .old) (c .new) ⌝ }
+{
+    let at = layout::rows_at(m);
+    search::back_up(
+        &kept[at..],
+        work,
+        frames,
+        Stand {
+            l: s.l,
+            r: s.r + c.old,
+            d: s.d,
+            here: false,
+        },
+    )
+}
+
+// A step.
+fn step(kept: &mut [u8], work: &mut [u8], frames: &[u32], m: Limits, s: Stand, c: Change) -> Stand
+    requires { ⌜ (length (now kept) ≡ recordBytes (board m)) × (typeCount (now kept) ≤ m .types) × (m .rows ≤ 2048) × (s .l + (rowCount (now work) - s .r) ≤ m .rows) × (m .rows + 2 ≤ rowCount (now work)) × (s .l + (rowCount (now work) - s .r) + c .new ≤ m .rows + c .old) × (m .rows ≤ length (now frames)) × Room (space (board m) (now kept)) (now work) (now frames) s × Turning (formOf (typesIn (now kept))) (space (board m) (now kept)) (now work) (now frames) s (c .old) (c .new) ⌝ }
+    ensures { λ e. ⌜ InRecord (board m) (now (kept .entry)) (now (kept .exit)) × Steps (formOf (typesIn (now (kept .entry)))) (space (board m) (now (kept .entry))) (space (board m) (now (kept .exit))) (now (work .entry)) (now (work .exit)) (now (frames .entry)) s e (c .old) (c .new) ⌝ }
+{
+    if c.new == 0 {
+        return step_over(kept, work, frames, m, s, c);
+    }
+    step_anew(kept, work, frames, m, s, c)
 }
 
 // The rows that give way, how many come in their place, and whether those are made already.
@@ -498,7 +528,7 @@ fn step_fresh(
         let at = layout::rows_at(m);
         return search::back_up(&kept[at..], work, frames, e);
     }
-    step(
+    step_anew(
         kept,
         work,
         frames,

@@ -12,11 +12,11 @@ use Rattle.runs.specs.Going.{space}
 use Rattle.runs.proofs.GoingOn.{lent-space, rows-fit}
 use Rattle.runs.proofs.Steps.{made-room, made-ready, steps, space-long}
 use borrow.Author.Needs.{needs}
-use Rattle.runs.proofs.step.Statement.{statement}
-use Rattle.runs.proofs.step.Tie as tie
+use Rattle.runs.proofs.step_anew.Statement.{statement}
+use Rattle.runs.proofs.step_anew.Tie as tie
 
-pub step-spec : {M : Type 1} → statement M
-step-spec =
+pub step-anew-spec : {M : Type 1} → statement M
+step-anew-spec =
     tie.close
     (tie.spec
     -- make-rule-requires
