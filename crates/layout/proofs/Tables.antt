@@ -140,7 +140,7 @@ taken-bytes (suc n) s from h = rw (drop-cons s from 0 (omega arith)) (ap (λ (r 
 
 pub row-stored : (d s : List ℕ) (at from : ℕ) → at + 8 ≤ length d → from + 8 ≤ length s
     → set (set (set (set (set (set (set (set d at (getD s from 0)) (at + 1) (getD s (from + 1) 0)) (at + 2) (getD s (from + 2) 0)) (at + 3) (getD s (from + 3) 0)) (at + 4) (getD s (from + 4) 0)) (at + 5) (getD s (from + 5) 0)) (at + 6) (getD s (from + 6) 0)) (at + 7) (getD s (from + 7) 0)
-      ≡ take at d ++ (take 8 (drop from s) ++ drop (at + 8) d)
+    ≡ take at d ++ (take 8 (drop from s) ++ drop (at + 8) d)
 row-stored d s at from h g = stored ∙ sets-eq (bytesFrom s from 8) d at h ∙ rw (taken-bytes 8 s from g, append-assoc)
   where
     stored : set (set (set (set (set (set (set (set d at (getD s from 0)) (at + 1) (getD s (from + 1) 0)) (at + 2) (getD s (from + 2) 0)) (at + 3) (getD s (from + 3) 0)) (at + 4) (getD s (from + 4) 0)) (at + 5) (getD s (from + 5) 0)) (at + 6) (getD s (from + 6) 0)) (at + 7) (getD s (from + 7) 0) ≡ sets d at (bytesFrom s from 8)

@@ -394,7 +394,14 @@ fn make_rule(kept: &mut [u8], work: &mut [u8], m: Limits, s: Stand, c: Change) -
 }
 
 // The rule where the search has stopped is carried out, and the search goes on at the new tree, or at the row around it if nothing else of that was passed.
-fn step_anew(kept: &mut [u8], work: &mut [u8], frames: &[u32], m: Limits, s: Stand, c: Change) -> Stand
+fn step_anew(
+    kept: &mut [u8],
+    work: &mut [u8],
+    frames: &[u32],
+    m: Limits,
+    s: Stand,
+    c: Change,
+) -> Stand
     requires { ⌜ (length (now kept) ≡ recordBytes (board m)) × (typeCount (now kept) ≤ m .types) × (m .rows ≤ 2048) × (s .l + (rowCount (now work) - s .r) ≤ m .rows) × (m .rows + 2 ≤ rowCount (now work)) × (s .l + (rowCount (now work) - s .r) + c .new ≤ m .rows + c .old) × (m .rows ≤ length (now frames)) × Room (space (board m) (now kept)) (now work) (now frames) s × Turning (formOf (typesIn (now kept))) (space (board m) (now kept)) (now work) (now frames) s (c .old) (c .new) ⌝ }
     ensures { λ e. ⌜ InRecord (board m) (now (kept .entry)) (now (kept .exit)) × Steps (formOf (typesIn (now (kept .entry)))) (space (board m) (now (kept .entry))) (space (board m) (now (kept .exit))) (now (work .entry)) (now (work .exit)) (now (frames .entry)) s e (c .old) (c .new) ⌝ }
 {

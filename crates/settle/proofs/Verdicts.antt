@@ -163,9 +163,9 @@ top-type (r ∷ rs) h = refl
 
 first-type : (rows : List ℕ) → 8 ≤ length rows → (t : ℕ) → t ≡ number 2 (drop 2 rows) → tyOf (treeOf (termRows rows)) ≡ t
 first-type rows h t e =
-      top-type (rowTable rows) (omega (arith, row-table-length rows))
-      ∙ ap typeNo (row-table-at rows 0 [] (omega arith) ∙ term-row 0 rows)
-      ∙ sym e
+    top-type (rowTable rows) (omega (arith, row-table-length rows))
+    ∙ ap typeNo (row-table-at rows 0 [] (omega arith) ∙ term-row 0 rows)
+    ∙ sym e
 
 module _ (form : ℕ → Form) (rows : List ℕ) (h : 8 ≤ length rows) (t : ℕ) (e : t ≡ number 2 (drop 2 rows)) (ty : ℕ) where
   pub another-type : (t ≡ ty → ⊥) → some 0 ≡ replyBad form ty (treeOf (termRows rows))

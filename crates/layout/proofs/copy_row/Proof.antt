@@ -43,6 +43,6 @@ copy-row-spec =
     (λ c. simp length-set)
     -- returns
     (λ c.
-      let args = c .before .before .before .before .before .before .before .before .args in
-      let pre = c .before .before .before .before .before .before .before .before .pre in
-      row-stored (args .dst .now) (args .src .now) (args .at) (args .from) (pre .0) (pre .1)))
+    let args = c .before .before .before .before .before .before .before .before .args in
+    let pre = c .before .before .before .before .before .before .before .before .pre in
+    row-stored (args .dst .now) (args .src .now) (args .at) (args .from) (pre .0) (pre .1)))

@@ -13,26 +13,26 @@ others-sound-spec =
     (λ c κs. search needs)
     -- returns
     (λ c.
-      let args = c .before .before .before .args in
-      let calls-sound = c .before .calls-sound in
-      let if1 = c .if1 in
-      sym (no-calls (args .m) (args .kept .now) (sym (calls-sound .ensures) ∙ not-true _ (if1 .taken))))
+    let args = c .before .before .before .args in
+    let calls-sound = c .before .calls-sound in
+    let if1 = c .if1 in
+    sym (no-calls (args .m) (args .kept .now) (sym (calls-sound .ensures) ∙ not-true _ (if1 .taken))))
     (λ c κs. search needs)
     -- returns-2
     (λ c.
-      let args = c .before .before .before .before .before .args in
-      let calls-sound = c .before .before .before .calls-sound in
-      let if1 = c .before .before .if1 in
-      let futures-sound = c .before .futures-sound in
-      let if2 = c .if2 in
-      sym (no-futures (args .m) (args .kept .now) (sym (calls-sound .ensures) ∙ not-false _ (if1 .left)) (sym (futures-sound .ensures) ∙ not-true _ (if2 .taken))))
+    let args = c .before .before .before .before .before .args in
+    let calls-sound = c .before .before .before .calls-sound in
+    let if1 = c .before .before .if1 in
+    let futures-sound = c .before .futures-sound in
+    let if2 = c .if2 in
+    sym (no-futures (args .m) (args .kept .now) (sym (calls-sound .ensures) ∙ not-false _ (if1 .left)) (sym (futures-sound .ensures) ∙ not-true _ (if2 .taken))))
     (λ c κs. search needs)
     -- returns-3
     (λ c.
-      let args = c .before .before .before .before .before .before .args in
-      let calls-sound = c .before .before .before .before .calls-sound in
-      let if1 = c .before .before .before .if1 in
-      let futures-sound = c .before .before .futures-sound in
-      let if2 = c .before .if2 in
-      let program-sound = c .program-sound in
-      program-sound .ensures ∙ sym (only-program (args .m) (args .kept .now) (sym (calls-sound .ensures) ∙ not-false _ (if1 .left)) (sym (futures-sound .ensures) ∙ not-false _ (if2 .left)))))
+    let args = c .before .before .before .before .before .before .args in
+    let calls-sound = c .before .before .before .before .calls-sound in
+    let if1 = c .before .before .before .if1 in
+    let futures-sound = c .before .before .futures-sound in
+    let if2 = c .before .if2 in
+    let program-sound = c .program-sound in
+    program-sound .ensures ∙ sym (only-program (args .m) (args .kept .now) (sym (calls-sound .ensures) ∙ not-false _ (if1 .left)) (sym (futures-sound .ensures) ∙ not-false _ (if2 .left)))))
