@@ -9,3 +9,4 @@ pub mod Parted
 pub mod Filled
 pub mod Told
 pub mod AtOnce
+pub mod LastBound

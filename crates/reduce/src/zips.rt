@@ -8,7 +8,7 @@ ghost use mathlib.Core.Path.{_≡_};
 ghost use mathlib.Core.Bool.{true, cond};
 ghost use mathlib.Core.List.{_∷_, _++_, map};
 ghost use Prim.Native.Nat.{ℕ, _+_, _*_, _-_, _≤_, _<_};
-ghost use lib.ListN.{length, take};
+ghost use lib.ListN.{length, getD, take};
 ghost use Rattle.layout.specs.Rows.{numbers, typeTable, rowTable, termRows};
 ghost use Rattle.meaning.specs.Types.{Form, formOf, low};
 ghost use Rattle.meaning.specs.Terms.{rowOf, nNo, is, size, sizes, treeOf, treeAt, grove};
@@ -272,6 +272,19 @@ pub fn write_full(types: &[u8], rows: &[u8], first: usize, bounds: &[u16], to: &
     );
 }
 
+// Where each of a zip's n arguments begins, from row `first` on. The last one ends where the rows end, so it is not walked.
+fn zip_bounds(rows: &[u8], first: usize, n: usize, bounds: &mut [u16])
+    requires { ⌜ (length (now bounds) ≡ 9) × (length (now rows) ≤ 16384) × (n ≤ 8) × (first + sizes (grove (map rowOf (rowTable (now rows))) first n) ≡ length (rowTable (now rows))) ⌝ }
+    ensures { λ _. ⌜ ((j : ℕ) → j ≤ n → getD (now (bounds .exit)) j 0 ≡ first + sizes (grove (map rowOf (rowTable (now (rows .entry)))) first j)) ⌝ }
+{
+    if n == 0 {
+        puts::fill_bounds(rows, first, n, bounds);
+        return;
+    }
+    puts::fill_bounds(rows, first, n - 1, bounds);
+    bounds[n] = layout::term_rows(rows) as u16;
+}
+
 // Of a zip: "When all are nil or cons: any nil gives nil; otherwise a cons". What it makes, counted; the arguments begin at a row.
 pub fn count_zip(rows: &[u8], first: usize) -> Outcome
     requires { ⌜ Redex (now rows) × ZipsFrom (rowTable (now rows)) first ⌝ }
@@ -282,7 +295,7 @@ pub fn count_zip(rows: &[u8], first: usize) -> Outcome
     let n = r.n as usize;
     let m = c.n;
     let mut bounds = [0u16; 9];
-    puts::fill_bounds(rows, first, n, &mut bounds);
+    zip_bounds(rows, first, n, &mut bounds);
     if all_lists(rows, first, n, m, &bounds) {
         if any_nil(rows, first, n, m, &bounds) {
             return Outcome::Goes(1);
@@ -302,7 +315,7 @@ pub fn write_zip(types: &[u8], rows: &[u8], first: usize, to: &mut [u8])
     let n = r.n as usize;
     let m = c.n;
     let mut bounds = [0u16; 9];
-    puts::fill_bounds(rows, first, n, &mut bounds);
+    zip_bounds(rows, first, n, &mut bounds);
     if any_nil(rows, first, n, m, &bounds) {
         crate::write_leaf(rows, 12, to);
         return;

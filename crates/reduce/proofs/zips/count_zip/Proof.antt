@@ -27,7 +27,7 @@ count-zip-spec =
     (λ c κs. let s = c .before .before in call-more (rowTable (s .args .rows .now)) (s .pre .0 .exact) (whole-in (s .pre .0 .one)) (s .pre .1 .0))
     (λ c. search needs)
     (λ c. search needs)
-    -- fill-bounds-requires
+    -- zip-bounds-requires
     (λ c κs.
     let s = c .before .before .before .before .before in
     let T = rowTable (s .args .rows .now) in
@@ -37,7 +37,7 @@ count-zip-spec =
     let (e, q, g) = s .pre .1 in
     let i : nNo (rowNo T 0) ≡ c .before .before .before .row-of .result .n = ap (λ (r : List ℕ). nNo r) (c .before .before .before .row-of .ensures) in
     let w : first + sizes (grove L first (c .before .before .before .row-of .result .n)) ≡ length T = ap (λ (x : ℕ). first + sizes (grove L first x)) (sym i) ∙ zip-whole T (R .exact) (R .one) e q first g in
-    (refl, omega (arith, R .few), omega (arith, i, R .args e), omega (arith, w)))
+    (refl, omega (arith, R .few), omega (arith, i, R .args e), w))
     (λ c. search needs)
     -- all-lists-requires
     (λ c κs.
@@ -49,7 +49,7 @@ count-zip-spec =
     let (e, q, g) = s .pre .1 in
     let i : nNo (rowNo T 0) ≡ c .before .before .before .before .before .before .row-of .result .n = ap (λ (r : List ℕ). nNo r) (c .before .before .before .before .before .before .row-of .ensures) in
     let w : first + sizes (grove L first (c .before .before .before .before .before .before .row-of .result .n)) ≡ length T = ap (λ (x : ℕ). first + sizes (grove L first x)) (sym i) ∙ zip-whole T (R .exact) (R .one) e q first g in
-    let f = c .before .before .fill-bounds in
+    let f = c .before .before .zip-bounds in
     let d : BoundsAt T first (c .before .before .before .before .before .before .row-of .result .n) (f .last .1 .1 .1 .0) = record { long = f .kept .1 .1 .1 .0; few = omega (arith, i, R .args e); places = f .ensures } in
     (d, omega (arith, w)))
     (λ c. search needs)
@@ -63,7 +63,7 @@ count-zip-spec =
     let (e, q, g) = s .pre .1 in
     let i : nNo (rowNo T 0) ≡ c .before .before .before .before .before .before .before .before .before .row-of .result .n = ap (λ (r : List ℕ). nNo r) (c .before .before .before .before .before .before .before .before .before .row-of .ensures) in
     let w : first + sizes (grove L first (c .before .before .before .before .before .before .before .before .before .row-of .result .n)) ≡ length T = ap (λ (x : ℕ). first + sizes (grove L first x)) (sym i) ∙ zip-whole T (R .exact) (R .one) e q first g in
-    let f = c .before .before .before .before .before .fill-bounds in
+    let f = c .before .before .before .before .before .zip-bounds in
     let d : BoundsAt T first (c .before .before .before .before .before .before .before .before .before .row-of .result .n) (f .last .1 .1 .1 .0) = record { long = f .kept .1 .1 .1 .0; few = omega (arith, i, R .args e); places = f .ensures } in
     (d, omega (arith, w)))
     -- returns
@@ -92,7 +92,7 @@ count-zip-spec =
     let i : nNo (rowNo T 0) ≡ c .before .before .before .before .before .before .before .before .before .before .before .before .row-of .result .n = ap (λ (r : List ℕ). nNo r) (c .before .before .before .before .before .before .before .before .before .before .before .before .row-of .ensures) in
     let k : nNo (rowNo T 1) ≡ c .before .before .before .before .before .before .before .before .before .before .before .row-of2 .result .n = ap (λ (r : List ℕ). nNo r) (c .before .before .before .before .before .before .before .before .before .before .before .row-of2 .ensures) in
     let w : first + sizes (grove L first (c .before .before .before .before .before .before .before .before .before .before .before .before .row-of .result .n)) ≡ length T = ap (λ (x : ℕ). first + sizes (grove L first x)) (sym i) ∙ zip-whole T (R .exact) (R .one) e q first g in
-    let f = c .before .before .before .before .before .before .before .before .fill-bounds in
+    let f = c .before .before .before .before .before .before .before .before .zip-bounds in
     let d : BoundsAt T first (c .before .before .before .before .before .before .before .before .before .before .before .before .row-of .result .n) (f .last .1 .1 .1 .0) = record { long = f .kept .1 .1 .1 .0; few = omega (arith, i, R .args e); places = f .ensures } in
     let r : c .before .before .before .before .before .all-lists .result ≡ ready (nNo (rowNo T 1)) (grove L first (nNo (rowNo T 0))) = c .before .before .before .before .before .all-lists .ensures ∙ ap (λ (x : ℕ). ready x (grove L first (c .before .before .before .before .before .before .before .before .before .before .before .before .row-of .result .n))) (sym k) ∙ ap (λ (x : ℕ). ready (nNo (rowNo T 1)) (grove L first x)) (sym i) in
     let a : c .before .before .any-nil .result ≡ anyNil (nNo (rowNo T 1)) (grove L first (nNo (rowNo T 0))) = c .before .before .any-nil .ensures ∙ ap (λ (x : ℕ). anyNil x (grove L first (c .before .before .before .before .before .before .before .before .before .before .before .before .row-of .result .n))) (sym k) ∙ ap (λ (x : ℕ). anyNil (nNo (rowNo T 1)) (grove L first x)) (sym i) in

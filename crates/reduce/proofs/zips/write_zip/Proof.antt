@@ -28,7 +28,7 @@ write-zip-spec =
     (λ c κs. let s = c .before .before .before .before in call-more (rowTable (s .args .rows .now)) (s .pre .0 .exact) (whole-in (s .pre .0 .one)) (s .pre .1 .0))
     (λ c. search needs)
     (λ c. search needs)
-    -- fill-bounds-requires
+    -- zip-bounds-requires
     (λ c κs.
     let s = c .before .before .before .before .before .before .before in
     let T = rowTable (s .args .rows .now) in
@@ -38,7 +38,7 @@ write-zip-spec =
     let (e, q, g) = s .pre .1 in
     let i : nNo (rowNo T 0) ≡ c .before .before .before .row-of .result .n = ap (λ (r : List ℕ). nNo r) (c .before .before .before .row-of .ensures) in
     let w : first + sizes (grove L first (c .before .before .before .row-of .result .n)) ≡ length T = ap (λ (x : ℕ). first + sizes (grove L first x)) (sym i) ∙ zip-whole T (R .exact) (R .one) e q first g in
-    (refl, omega (arith, R .few), omega (arith, i, R .args e), omega (arith, w)))
+    (refl, omega (arith, R .few), omega (arith, i, R .args e), w))
     (λ c. search needs)
     -- any-nil-requires
     (λ c κs.
@@ -50,7 +50,7 @@ write-zip-spec =
     let (e, q, g) = s .pre .1 in
     let i : nNo (rowNo T 0) ≡ c .before .before .before .before .before .before .row-of .result .n = ap (λ (r : List ℕ). nNo r) (c .before .before .before .before .before .before .row-of .ensures) in
     let w : first + sizes (grove L first (c .before .before .before .before .before .before .row-of .result .n)) ≡ length T = ap (λ (x : ℕ). first + sizes (grove L first x)) (sym i) ∙ zip-whole T (R .exact) (R .one) e q first g in
-    let f = c .before .before .fill-bounds in
+    let f = c .before .before .zip-bounds in
     let d : BoundsAt T first (c .before .before .before .before .before .before .row-of .result .n) (f .last .1 .1 .1 .0) = record { long = f .kept .1 .1 .1 .0; few = omega (arith, i, R .args e); places = f .ensures } in
     (d, omega (arith, w)))
     -- write-leaf-requires
@@ -97,7 +97,7 @@ write-zip-spec =
     let i : nNo (rowNo T 0) ≡ c .before .before .before .before .before .before .before .before .before .before .row-of .result .n = ap (λ (r : List ℕ). nNo r) (c .before .before .before .before .before .before .before .before .before .before .row-of .ensures) in
     let k : nNo (rowNo T 1) ≡ c .before .before .before .before .before .before .before .before .before .row-of2 .result .n = ap (λ (r : List ℕ). nNo r) (c .before .before .before .before .before .before .before .before .before .row-of2 .ensures) in
     let w : first + sizes (grove L first (c .before .before .before .before .before .before .before .before .before .before .row-of .result .n)) ≡ length T = ap (λ (x : ℕ). first + sizes (grove L first x)) (sym i) ∙ zip-whole T (R .exact) (R .one) e q first g in
-    let f = c .before .before .before .before .before .before .fill-bounds in
+    let f = c .before .before .before .before .before .before .zip-bounds in
     let d : BoundsAt T first (c .before .before .before .before .before .before .before .before .before .before .row-of .result .n) (f .last .1 .1 .1 .0) = record { long = f .kept .1 .1 .1 .0; few = omega (arith, i, R .args e); places = f .ensures } in
     let a : c .before .before .before .any-nil .result ≡ anyNil (nNo (rowNo T 1)) (grove L first (nNo (rowNo T 0))) = c .before .before .before .any-nil .ensures ∙ ap (λ (x : ℕ). anyNil x (grove L first (c .before .before .before .before .before .before .before .before .before .before .row-of .result .n))) (sym k) ∙ ap (λ (x : ℕ). anyNil (nNo (rowNo T 1)) (grove L first x)) (sym i) in
     let F = formOf (typeTable (s .args .types .now)) in
