@@ -10,6 +10,9 @@ ghost use Rattle.meaning.specs.Records.{recordMark};
 ghost use Rattle.meaning.specs.Types.{formNo, partsNo, result};
 ghost use Rattle.layout.specs.Rows.{numbers, board};
 
+// The edition of files, records and rows that is read and written.
+pub const EDITION: u16 = 1;
+
 // Bytes of each header and row.
 pub const FILE_HEAD: usize = 10;
 
@@ -41,6 +44,28 @@ pub const NEXT_AT: usize = 12;
 pub const PROGRAM_AT: usize = 16;
 
 pub const ZEROS_AT: usize = 18;
+
+// Where the fields of a term row stand behind its kind and n.
+pub const ROW_TYPE_AT: usize = 2;
+
+pub const ROW_WORD_AT: usize = 4;
+
+// Where the fields of an entry of the open list stand behind its number.
+pub const ENTRY_TYPE_AT: usize = 4;
+
+pub const ENTRY_ZEROS_AT: usize = 6;
+
+// Where the fields of a reply's header stand behind its number.
+pub const REPLY_COUNT_AT: usize = 4;
+
+pub const REPLY_ZEROS_AT: usize = 6;
+
+// Where the fields of a call's header stand behind its number.
+pub const CALL_TOOL_AT: usize = 4;
+
+pub const CALL_COUNT_AT: usize = 8;
+
+pub const CALL_TYPE_AT: usize = 10;
 
 // What a search for a row finds.
 pub enum Found {
@@ -134,8 +159,8 @@ pub fn row_at(rows: &[u8], i: usize) -> Row
     Row {
         kind: rows[at],
         n: rows[at + 1],
-        ty: u16_at(rows, at + 2),
-        word: u32_at(rows, at + 4),
+        ty: u16_at(rows, at + ROW_TYPE_AT),
+        word: u32_at(rows, at + ROW_WORD_AT),
     }
 }
 

@@ -1,5 +1,7 @@
 // The open list: an array of 64 entries and a count, a value between its reading from and its writing to a record.
 use layout::ENTRY_ROW;
+use layout::ENTRY_TYPE_AT;
+use layout::ENTRY_ZEROS_AT;
 ghost use mathlib.Core.Path.{_≡_};
 ghost use mathlib.Core.Bool.{Bool};
 ghost use mathlib.Core.List.{_++_, _∷_, [], map};
@@ -149,8 +151,8 @@ fn put_entry(calls: &mut [u8], at: usize, e: Entry)
     ensures { λ _. ⌜ now (calls .exit) ≡ sets (now (calls .entry)) at (write entryRow (rawEntry (call e))) ⌝ }
 {
     layout::put32_at(calls, at, e.number);
-    layout::put16_at(calls, at + 4, e.ty);
-    layout::put16_at(calls, at + 6, 0);
+    layout::put16_at(calls, at + ENTRY_TYPE_AT, e.ty);
+    layout::put16_at(calls, at + ENTRY_ZEROS_AT, 0);
 }
 
 // The entries in the list part of a record, as many as it counts.
@@ -166,7 +168,7 @@ pub fn load(calls: &[u8], count: usize) -> OpenList
     while i < count {
         list.entries[i] = Entry {
             number: layout::u32_at(calls, ENTRY_ROW * i),
-            ty: layout::u16_at(calls, ENTRY_ROW * i + 4),
+            ty: layout::u16_at(calls, ENTRY_ROW * i + ENTRY_TYPE_AT),
         };
         i += 1;
     }

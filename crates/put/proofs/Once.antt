@@ -73,8 +73,8 @@ unpicked-out (y ∷ ys) w h =
 
 pub within-more : (names : List ℕ) (x z : Range) (k : ℕ) → Widens x z (getD names k 0) → ((j : ℕ) → j < k → (x .low ≤ getD names j 0) × (getD names j 0 ≤ x .high)) → (j : ℕ) → j < k + 1 → (z .low ≤ getD names j 0) × (getD names j 0 ≤ z .high)
 within-more names x z k w a j i = elim (ℕ-discrete j k) [
-  | yes q ↦ rw q (w .above, w .under)
-  | no q ↦ let b = a j (omega (arith, i, q)) in (omega (arith, b .0, w .lower), omega (arith, b .1, w .higher))
+  | yes q ↦ rw q (omega (arith, w .least), omega (arith, w .greatest))
+  | no q ↦ let b = a j (omega (arith, i, q)) in (omega (arith, b .0, w .least), omega (arith, b .1, w .greatest))
 ]
 
 module _ (form : ℕ → Form) (names : List ℕ) (x : Range) (inside : Within names x) (k n w ty : ℕ) (function : k ≡ 6 → ⊥) (out : x .low ≤ w → w ≤ x .high → ⊥) where

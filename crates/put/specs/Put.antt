@@ -1,5 +1,5 @@
 -- Names put at once, row by row: which names are hidden in each tree still owed, and the rows that are written. Assumes nothing.
-use Prim.Native.Nat.{ℕ, zero, suc, _+_, _*_, _-_, _≤_, _<_}
+use Prim.Native.Nat.{ℕ, zero, suc, _+_, _*_, _-_, _≤_, _<_, min, max}
 use mathlib.Core.Path.{_≡_}
 use mathlib.Core.Bool.{Bool, true, false, cond}
 use mathlib.Core.List.{List, [], _∷_, _++_, map}
@@ -127,11 +127,8 @@ Among names ps = (j : ℕ) → j < length names → told (find ps (getD names j 
 
 -- a range with one name more
 pub record Widens (x z : Range) (y : ℕ) : Type 0 where
-  pub lower : z .low ≤ x .low
-  pub higher : x .high ≤ z .high
-  pub above : z .low ≤ y
-  pub under : y ≤ z .high
-  pub most : (n : ℕ) → x .high ≤ n → y ≤ n → z .high ≤ n
+  pub least : z .low ≡ min (x .low) y
+  pub greatest : z .high ≡ max (x .high) y
 
 -- the names are in a range
 pub record Within (names : List ℕ) (x : Range) : Type 0 where

@@ -564,8 +564,8 @@ pub fn write_row(to: &mut [u8], i: usize, r: Row)
     let at = layout::TERM_ROW * i;
     to[at] = r.kind;
     to[at + 1] = r.n;
-    layout::put16_at(to, at + 2, r.ty);
-    layout::put32_at(to, at + 4, r.word);
+    layout::put16_at(to, at + layout::ROW_TYPE_AT, r.ty);
+    layout::put32_at(to, at + layout::ROW_WORD_AT, r.word);
 }
 
 // n standing rows of a table, from row `from` on, go to another from row `at` on.

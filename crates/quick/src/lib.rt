@@ -44,9 +44,6 @@ fn unsure(row: usize) -> Seen
     }
 }
 
-// The edition of the rows that are seen.
-const VERSION: u16 = 1;
-
 // Rows that are few.
 const FEW: usize = 256;
 
@@ -164,7 +161,7 @@ pub fn all_good(types: &[u8], rows: &[u8], edition: u16) -> Seen
     requires { ⌜ (length (now types) ≤ 9216) × (length (now rows) ≤ 16384) ⌝ }
     ensures { λ r. ⌜ Shows edition (now (types .entry)) (now (rows .entry)) r ⌝ }
 {
-    if edition != VERSION {
+    if edition != layout::EDITION {
         return unsure(0);
     }
     if layout::term_rows(rows) <= FEW {

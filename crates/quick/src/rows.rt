@@ -301,13 +301,13 @@ pub fn see(
     }
     let k = r.kind;
     match k {
-        1 => leaf(types, rows, 1, 0, 4294967295, p),
-        2 => leaf(types, rows, 2, 0, 4294967295, p),
+        1 => leaf(types, rows, 1, 0, fields::LAST_WORD, p),
+        2 => leaf(types, rows, 2, 0, fields::LAST_WORD, p),
         3 => leaf(types, rows, 3, 0, 0, p),
         4 => leaf(types, rows, 3, 0, 0, p),
         5 => variable(rows, bound, heads, p),
         6 => native(types, rows, stack, bound, heads, p),
-        7 => leaf(types, rows, 7, 1, 65535, p),
+        7 => leaf(types, rows, 7, 1, fields::LAST_NUMBER, p),
         8 => apply(types, rows, stack, p),
         9 => future(rows, p),
         10 => branch(types, rows, stack, p),

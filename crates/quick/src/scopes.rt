@@ -2,6 +2,7 @@
 use crate::Place;
 use crate::names;
 use crate::rows;
+use terms::fields;
 use typing::stated;
 ghost use mathlib.Core.Path.{_≡_};
 ghost use mathlib.Core.Bool.{true};
@@ -42,7 +43,7 @@ pub fn enter(rows: &[u8], bound: &mut [u64], heads: &mut [u16], p: Place, j: usi
     if r.kind != 19 {
         return rows::refused();
     }
-    if 65535 < r.word {
+    if fields::LAST_NUMBER < r.word {
         return rows::refused();
     }
     if p.b == 0 {

@@ -16,7 +16,7 @@ ghost use Rattle.reduce.specs.Plan.{rowNo, TiesAt};
 ghost use Rattle.reduce.specs.Once.{MadeAtOnce, Goes};
 
 // Of a let: its body with the bound term put.
-pub fn let_once(types: &[u8], rows: &[u8], to: &mut [u8]) -> Pass
+fn let_once(types: &[u8], rows: &[u8], to: &mut [u8]) -> Pass
     requires { ⌜ Front (now rows) × (kindNo (rowNo (rowTable (now rows)) 0) ≡ 19) × (length (now to) ≤ 32768) ⌝ }
     ensures { λ x. ⌜ MadeAtOnce (formOf (typeTable (now (types .entry)))) (rowTable (now (rows .entry))) (rowTable (now (to .exit))) x ⌝ }
 {
@@ -25,7 +25,7 @@ pub fn let_once(types: &[u8], rows: &[u8], to: &mut [u8]) -> Pass
 }
 
 // Of a call of a native function: its body with the arguments put, where it has as many as the function has names.
-pub fn call_once(types: &[u8], rows: &[u8], to: &mut [u8]) -> Pass
+fn call_once(types: &[u8], rows: &[u8], to: &mut [u8]) -> Pass
     requires { ⌜ Front (now rows) × (kindNo (rowNo (rowTable (now rows)) 0) ≡ 8) × (kindNo (rowNo (rowTable (now rows)) 1) ≡ 6) × (length (now to) ≤ 32768) ⌝ }
     ensures { λ x. ⌜ MadeAtOnce (formOf (typeTable (now (types .entry)))) (rowTable (now (rows .entry))) (rowTable (now (to .exit))) x ⌝ }
 {
@@ -45,7 +45,7 @@ pub fn call_once(types: &[u8], rows: &[u8], to: &mut [u8]) -> Pass
 }
 
 // Of an if over true: its second tree.
-pub fn if_once(rows: &[u8], to: &mut [u8]) -> Pass
+fn if_once(rows: &[u8], to: &mut [u8]) -> Pass
     requires { ⌜ Front (now rows) × (kindNo (rowNo (rowTable (now rows)) 0) ≡ 10) × (kindNo (rowNo (rowTable (now rows)) 1) ≡ 3) ⌝ }
     ensures { λ x. ⌜ ((form : ℕ → Form) → MadeAtOnce form (rowTable (now (rows .entry))) (rowTable (now (to .exit))) x) ⌝ }
 {
@@ -60,7 +60,7 @@ pub fn if_once(rows: &[u8], to: &mut [u8]) -> Pass
 }
 
 // Of a fix of a function with a name: the function of the others.
-pub fn tie_once(types: &[u8], rows: &[u8], to: &mut [u8]) -> Pass
+fn tie_once(types: &[u8], rows: &[u8], to: &mut [u8]) -> Pass
     requires { ⌜ Front (now rows) × TiesAt (formOf (typeTable (now types))) (rowTable (now rows)) × (length (now to) ≤ 32768) ⌝ }
     ensures { λ x. ⌜ MadeAtOnce (formOf (typeTable (now (types .entry)))) (rowTable (now (rows .entry))) (rowTable (now (to .exit))) x ⌝ }
 {

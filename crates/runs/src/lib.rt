@@ -30,27 +30,13 @@ ghost use Rattle.meaning.specs.declared.Run.the-variants.{Ran};
 ghost use Rattle.runs.specs.Sites.{Halted, own};
 ghost use Rattle.meaning.specs.Steps.{stay};
 
-// Where the fields of a term row stand behind its kind and n.
-const ROW_TYPE: usize = 2;
-
-const ROW_WORD: usize = 4;
-
-// Where the fields of a letter's header stand.
-const NUMBER_AT: usize = 0;
-
-const TOOL_AT: usize = 4;
-
-const COUNT_AT: usize = 8;
-
-const TYPE_AT: usize = 10;
-
 // Of a call's rows: the tool's number in the second, and where the arguments begin.
-const TOOL_WORD: usize = 12;
+const TOOL_WORD: usize = layout::TERM_ROW + layout::ROW_WORD_AT;
 
-const ARGUMENTS: usize = 16;
+const ARGUMENTS: usize = 2 * layout::TERM_ROW;
 
 // A letter has so many bytes less than the rows of its call.
-const LETTER_LESS: usize = 4;
+const LETTER_LESS: usize = ARGUMENTS - layout::CALL_HEAD;
 
 // What a rule that is tried tells: it stays; it goes, with the rows that give way and the new rows; it sends, with the rows of its tree; it goes, and
 // its rows are counted when they are made. A tree that stands already, behind some rows of the one that reduces, has no new rows.
@@ -108,10 +94,18 @@ fn write_letter(call: &[u8], work: &mut [u8], next: u32)
     ensures { λ _. ⌜ now (work .exit) ≡ letterFrom next (now (call .entry)) ++ drop (length (now (call .entry)) - 4) (now (work .entry)) ⌝ }
 {
     let n = call.len();
-    layout::put32_at(work, NUMBER_AT, next);
-    layout::put32_at(work, TOOL_AT, layout::u32_at(call, TOOL_WORD));
-    layout::put16_at(work, COUNT_AT, (n / layout::TERM_ROW - 2) as u16);
-    layout::put16_at(work, TYPE_AT, layout::u16_at(call, ROW_TYPE));
+    layout::put32_at(work, 0, next);
+    layout::put32_at(work, layout::CALL_TOOL_AT, layout::u32_at(call, TOOL_WORD));
+    layout::put16_at(
+        work,
+        layout::CALL_COUNT_AT,
+        (n / layout::TERM_ROW - 2) as u16,
+    );
+    layout::put16_at(
+        work,
+        layout::CALL_TYPE_AT,
+        layout::u16_at(call, layout::ROW_TYPE_AT),
+    );
     layout::copy_to(work, layout::CALL_HEAD, call, ARGUMENTS, n - ARGUMENTS);
 }
 
@@ -123,8 +117,8 @@ fn put_future(work: &mut [u8], r: usize, ty: u16, next: u32)
     let at = layout::TERM_ROW * (r - 1);
     work[at] = 9;
     work[at + 1] = 0;
-    layout::put16_at(work, at + ROW_TYPE, ty);
-    layout::put32_at(work, at + ROW_WORD, next);
+    layout::put16_at(work, at + layout::ROW_TYPE_AT, ty);
+    layout::put32_at(work, at + layout::ROW_WORD_AT, next);
 }
 
 // The search goes on in the record's row space until it stops.
@@ -169,7 +163,7 @@ fn call_type(kept: &[u8], m: Limits, s: Stand, old: usize) -> u16
     let at = layout::rows_at(m);
     let p = at + layout::TERM_ROW * (l - old);
     let q = p + layout::TERM_ROW * old;
-    layout::u16_at(&kept[p..q], ROW_TYPE)
+    layout::u16_at(&kept[p..q], layout::ROW_TYPE_AT)
 }
 
 // The call at the end of the rows passed goes out: its future comes to stand in its place, its letter at the front of the work buffer.

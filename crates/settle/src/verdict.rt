@@ -18,17 +18,6 @@ ghost use Rattle.terms.specs.Tables.{Closed};
 ghost use Rattle.sound.specs.Ready.{Ready};
 ghost use Rattle.settle.specs.Settled.{goodVerdict, rowsVerdict};
 
-// The edition of the rows that are read.
-const VERSION: u16 = 1;
-
-// Where a reply's header has the count of rows and the zeros behind it.
-const COUNT_AT: usize = 4;
-
-const ZEROS_AT: usize = 6;
-
-// Where a row has its type.
-const TYPE_AT: usize = 2;
-
 // Refusal 11: the header, and the length that its count needs.
 fn head_ok(answer: &[u8], m: Limits) -> bool
     ensures { λ b. ⌜ b ≡ replyHeadOk (board m) (now (answer .entry)) ⌝ }
@@ -36,14 +25,14 @@ fn head_ok(answer: &[u8], m: Limits) -> bool
     if answer.len() < layout::REPLY_HEAD {
         return false;
     }
-    let rows = layout::u16_at(answer, COUNT_AT);
+    let rows = layout::u16_at(answer, layout::REPLY_COUNT_AT);
     if rows == 0 {
         return false;
     }
     if m.reply < rows {
         return false;
     }
-    if layout::u16_at(answer, ZEROS_AT) != 0 {
+    if layout::u16_at(answer, layout::REPLY_ZEROS_AT) != 0 {
         return false;
     }
     answer.len() == layout::REPLY_HEAD + layout::TERM_ROW * rows as usize
@@ -96,7 +85,7 @@ fn first_wrong(types: &[u8], rows: &[u8], ty: u16) -> Found
     requires { ⌜ (8 ≤ length (now rows)) × (length (now rows) ≤ 16384) × Closed (termRows (now rows)) (length (now rows) / 8) ⌝ }
     ensures { λ r. ⌜ found r ≡ replyBad (formOf (typeTable (now (types .entry)))) ty (treeOf (termRows (now (rows .entry)))) ⌝ }
 {
-    if layout::u16_at(rows, TYPE_AT) != ty {
+    if layout::u16_at(rows, layout::ROW_TYPE_AT) != ty {
         return Found::At(0);
     }
     typing::first_bad(types, rows)
@@ -114,7 +103,7 @@ fn checked_verdict(
     requires { ⌜ (length (now types) ≤ 9216) × (length (now rows) ≤ 16384) × (8 ≤ length (now value)) × (length (now value) ≤ 2048) ⌝ }
     ensures { λ v. ⌜ v ≡ rowsVerdict (now (types .entry)) (now (rows .entry)) (now (value .entry)) number ty room ⌝ }
 {
-    let shape = terms::check_shape(value, layout::type_rows(types) as u16, VERSION);
+    let shape = terms::check_shape(value, layout::type_rows(types) as u16, layout::EDITION);
     if let Shape::Bad(f, i) = shape {
         return Verdict::Refused(Refusal::ReplyRow(f, i));
     }
@@ -141,7 +130,7 @@ fn good_verdict(rows: &[u8], value: &[u8], number: u32, ty: u16, room: u16) -> V
     if let Found::At(i) = unfit {
         return Verdict::Refused(Refusal::ReplyKind(i));
     }
-    if layout::u16_at(value, TYPE_AT) != ty {
+    if layout::u16_at(value, layout::ROW_TYPE_AT) != ty {
         return Verdict::Refused(Refusal::ReplyTyping(0));
     }
     if (room as usize) < super::rows_after(rows, value, number) {

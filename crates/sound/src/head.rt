@@ -65,7 +65,7 @@ fn is_marked(kept: &[u8]) -> bool
     if kept[2] != 82 {
         return false;
     }
-    if edition(kept) != 1 {
+    if edition(kept) != layout::EDITION {
         return false;
     }
     kept[layout::ZERO_AT] == 0

@@ -90,11 +90,11 @@ fn entries_sound(types: &[u8], calls: &[u8], next: u32) -> bool
         if next <= layout::u32_at(calls, at) {
             return false;
         }
-        let ty = layout::u16_at(calls, at + 4);
+        let ty = layout::u16_at(calls, at + layout::ENTRY_TYPE_AT);
         if !types::ground_at(types, &mut known, ty as usize) {
             return false;
         }
-        if layout::u16_at(calls, at + 6) != 0 {
+        if layout::u16_at(calls, at + layout::ENTRY_ZEROS_AT) != 0 {
             return false;
         }
         i += 1;
@@ -232,7 +232,7 @@ fn program_sound(kept: &[u8], m: Limits) -> bool
     ensures { λ b. ⌜ b ≡ programSound (board m) (now (kept .entry)) ⌝ }
 {
     let at = layout::rows_at(m);
-    layout::u16_at(kept, at + 2) == head::program_type(kept)
+    layout::u16_at(kept, at + layout::ROW_TYPE_AT) == head::program_type(kept)
 }
 
 // The tests behind those of the rows: the open list, the futures, where there may be one, the program's type.

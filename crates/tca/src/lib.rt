@@ -20,9 +20,6 @@ ghost use Rattle.meaning.specs.Records.{firstNot};
 ghost use Rattle.meaning.specs.Entries.{fileEdition, fileTypeCount, fileRowCount, noFuture, programVerdict, loadVerdict, LoadSays};
 ghost use Rattle.tca.specs.Loads.{Tells, futureVerdict, rowsVerdict};
 
-// The edition of the file format that is read.
-const VERSION: u16 = 1;
-
 // A verdict in document 01's numbers.
 #[repr(C)]
 pub struct Verdict {
@@ -130,7 +127,7 @@ fn load_verdict(file: &[u8], room: usize, m: Limits) -> meaning::Verdict
     }
     if head::is_marked(file) {
         let edition = head::version(file);
-        if edition != VERSION {
+        if edition != layout::EDITION {
             return meaning::Verdict::Refused(Refusal::Version);
         }
         if head::counts_ok(file, m) {

@@ -5,6 +5,11 @@ ghost use lib.ListN.{getD};
 ghost use Rattle.layout.specs.Rows.{numbers};
 ghost use Rattle.meaning.specs.Terms.{fits, words-from, none-used, any-word, a-number, an-n, kindFields};
 
+// The greatest word, and the greatest name or number.
+pub const LAST_WORD: u32 = 4294967295;
+
+pub const LAST_NUMBER: u32 = 65535;
+
 // n and word each lie in a range.
 pub fn within(r: Row, low: u8, high: u8, least: u32, most: u32) -> bool
     ensures { λ b. ⌜ b ≡ fits record { nLow = low; nHigh = high; words = words-from least most } (numbers r) ⌝ }
@@ -32,14 +37,14 @@ pub fn unused(r: Row) -> bool
 pub fn worded(r: Row) -> bool
     ensures { λ b. ⌜ b ≡ fits any-word (numbers r) ⌝ }
 {
-    within(r, 0, 0, 0, 4294967295)
+    within(r, 0, 0, 0, LAST_WORD)
 }
 
 // The word is a name or a number.
 pub fn numbered(r: Row) -> bool
     ensures { λ b. ⌜ b ≡ fits a-number (numbers r) ⌝ }
 {
-    within(r, 0, 0, 1, 65535)
+    within(r, 0, 0, 1, LAST_NUMBER)
 }
 
 // n counts, from low to high.

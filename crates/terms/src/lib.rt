@@ -44,7 +44,7 @@ pub fn children(r: Row) -> usize
 fn last_kind(edition: u16) -> u8
     ensures { λ r. ⌜ (r ≡ lastKind edition) × (r ≤ 19) ⌝ }
 {
-    if edition == 1 {
+    if edition == layout::EDITION {
         return 19;
     }
     0

@@ -24,7 +24,7 @@ pub fn part_count(types: &[u8], t: usize) -> usize
 fn last_form(edition: u16) -> u8
     ensures { λ r. ⌜ r ≡ lastForm edition ⌝ }
 {
-    if edition == 1 {
+    if edition == layout::EDITION {
         return 7;
     }
     0

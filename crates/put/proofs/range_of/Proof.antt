@@ -42,7 +42,7 @@ range-of-spec =
     let names = c .before .before .before .before .before .before .before .before .before .args .names .now in
     let z = c .widen .result in
     let w : Widens (l .x) z (getD names (l .k) 0) = subst (λ (y : ℕ). Widens (l .x) z y) (c .before .wide2 .ensures) (c .widen .ensures) in
-    (omega (arith, c .before .before .before .loop-test .taken), omega arith, l .inv .2, omega (arith, w .above, w .under), w .most 65535 (l .inv .4) (omega (arith, c .before .before .shared-slice-known3 .given (l .k))), within-more names (l .x) z (l .k) w (l .inv .5)))
+    (omega (arith, c .before .before .before .loop-test .taken), omega arith, l .inv .2, omega (arith, w .least, w .greatest), omega (arith, w .greatest, l .inv .4, c .before .before .shared-slice-known3 .given (l .k)), within-more names (l .x) z (l .k) w (l .inv .5)))
     -- returns-2
     (λ c.
     let l = c .before .loop in
