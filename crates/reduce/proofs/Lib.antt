@@ -10,3 +10,5 @@ pub mod Filled
 pub mod Told
 pub mod AtOnce
 pub mod LastBound
+pub mod Listed
+pub mod Cut

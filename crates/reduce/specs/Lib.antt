@@ -4,3 +4,4 @@ pub mod Given
 pub mod Halves
 pub mod Behind
 pub mod Once
+pub mod Lists

@@ -1,19 +1,21 @@
-// Rules that are carried out in one pass, on rows that may go on behind the tree: let, a call of a native function, an if over true, fix. The new rows
-// go to the front of a table that may have more room.
+// Rules that are carried out in one pass, on rows that may go on behind the tree: let, a call of a native function or a zip, an if over true, fix. The
+// new rows go to the front of a table that may have more room.
 use crate::places;
 use crate::puts;
+use crate::zips;
 use layout::Row;
 use put::Pass;
 ghost use mathlib.Core.Path.{_≡_};
 ghost use mathlib.Core.Bool.{true};
 ghost use Prim.Native.Nat.{ℕ, _≤_};
 ghost use lib.ListN.{length};
-ghost use Rattle.layout.specs.Rows.{typeTable, rowTable};
+ghost use Rattle.layout.specs.Rows.{typeTable, rowTable, termRows};
 ghost use Rattle.meaning.specs.Types.{Form, formOf};
-ghost use Rattle.meaning.specs.Terms.{kindNo};
+ghost use Rattle.meaning.specs.Terms.{kindNo, treeOf};
 ghost use Rattle.reduce.specs.Rule.{Front};
 ghost use Rattle.reduce.specs.Plan.{rowNo, TiesAt};
 ghost use Rattle.reduce.specs.Once.{MadeAtOnce, Goes};
+ghost use Rattle.reduce.specs.Lists.{treeZips};
 
 // Of a let: its body with the bound term put.
 fn let_once(types: &[u8], rows: &[u8], to: &mut [u8]) -> Pass
@@ -85,6 +87,34 @@ fn tie_once(types: &[u8], rows: &[u8], to: &mut [u8]) -> Pass
         Pass::Made(e, new) => Pass::Made(old, new + 1),
         Pass::Unknown => Pass::Unknown,
     }
+}
+
+// Of a zip whose masked arguments are lists: nil, or a cons. Not among the rules of `make`: the search passes a zip's arguments before its rule is tried.
+pub fn zip_once(types: &[u8], rows: &[u8], to: &mut [u8]) -> Pass
+    requires { ⌜ Front (now rows) × (kindNo (rowNo (rowTable (now rows)) 0) ≡ 8) × (kindNo (rowNo (rowTable (now rows)) 1) ≡ 15) × (length (now to) ≤ 32768) ⌝ }
+    ensures { λ x. ⌜ MadeAtOnce (formOf (typeTable (now (types .entry)))) (rowTable (now (rows .entry))) (rowTable (now (to .exit))) x ⌝ }
+{
+    let r = places::row_of(rows, 0);
+    let n = r.n as usize;
+    if 8 < n {
+        return Pass::Unknown;
+    }
+    let first = terms::end_of(rows, 1);
+    let mut bounds = [0u16; 9];
+    puts::fill_bounds(rows, first, n, &mut bounds);
+    let e = layout::TERM_ROW * layout::wide(bounds[n]);
+    zips::make_zip(types, &rows[..e], first, &bounds, to)
+}
+
+// Whether the rows begin with a call of a zip.
+pub fn calls_zip(rows: &[u8]) -> bool
+    requires { ⌜ Front (now rows) ⌝ }
+    ensures { λ b. ⌜ (b ≡ true → treeZips (treeOf (termRows (now (rows .entry)))) ≡ true) ⌝ }
+{
+    if places::kind_of(rows, 0) != 8 {
+        return false;
+    }
+    places::kind_of(rows, 1) == 15
 }
 
 // Whether the first row is a fix of a function with a name.

@@ -3,6 +3,7 @@ use crate::Outcome;
 use crate::places;
 use crate::puts;
 use layout::Row;
+use put::Pass;
 use put::Span;
 ghost use mathlib.Core.Path.{_≡_};
 ghost use mathlib.Core.Bool.{true, cond};
@@ -18,6 +19,8 @@ ghost use Rattle.reduce.specs.Rule.{ruleOf, sizeIf, rowsIf, told, Redex}
 ghost use Rattle.reduce.specs.Plan.{rowNo, zipRows, ZipsFrom, ZipsAt};
 ghost use Rattle.put.specs.Put.{standing};
 ghost use Rattle.reduce.specs.Halves.{halfOf, Halves, HalfAt, BoundsAt};
+ghost use Rattle.reduce.specs.Lists.{treeZipsLists};
+ghost use Rattle.reduce.specs.Once.{MadeAtOnce};
 
 // Whether the argument at a row is a list, if the mask's first bit asks for one.
 pub fn ready_at(rows: &[u8], at: usize, h: u8) -> bool
@@ -83,6 +86,45 @@ pub fn any_nil(rows: &[u8], first: usize, n: usize, m: u8, bounds: &[u16]) -> bo
         j += 1;
     }
     false
+}
+
+// The same of their heads alone, where the rows go on behind them: the last one is not walked.
+fn lists_from(rows: &[u8], first: usize, n: usize, m: u8) -> bool
+    requires { ⌜ (length (now rows) ≤ 32768) × (first + sizes (grove (map rowOf (rowTable (now rows))) first n) ≤ length (rowTable (now rows))) ⌝ }
+    ensures { λ b. ⌜ b ≡ ready m (grove (map rowOf (rowTable (now (rows .entry)))) first n) ⌝ }
+{
+    if n == 0 {
+        return true;
+    }
+    let mut at = first;
+    let mut h = m;
+    let mut k = n;
+    while 1 < k {
+        if ready_at(rows, at, h) {
+            at = terms::end_of(rows, at);
+            h = h / 2;
+            k -= 1;
+        } else {
+            return false;
+        }
+    }
+    ready_at(rows, at, h)
+}
+
+// Whether the rows begin with a call of a zip whose masked arguments are lists.
+pub fn zips_lists(rows: &[u8]) -> bool
+    requires { ⌜ (length (now rows) ≤ 32768) × (size (treeOf (termRows (now rows))) ≤ length (rowTable (now rows))) ⌝ }
+    ensures { λ b. ⌜ (b ≡ true → treeZipsLists (treeOf (termRows (now (rows .entry)))) ≡ true) ⌝ }
+{
+    let r = places::row_of(rows, 0);
+    if r.kind != 8 {
+        return false;
+    }
+    let c = places::row_of(rows, 1);
+    if c.kind != 15 {
+        return false;
+    }
+    lists_from(rows, terms::end_of(rows, 1), r.n as usize, c.n)
 }
 
 // One side of what a zip makes: the row where its function's rows begin, the arguments' first row, how many, the mask, and whether their tails are
@@ -270,6 +312,36 @@ pub fn write_full(types: &[u8], rows: &[u8], first: usize, bounds: &[u16], to: &
         w,
         bounds,
     );
+}
+
+// The rows that a zip makes, into a table that may have more room, where its arguments' places are known; unknown where it stays or there is no room.
+pub fn make_zip(types: &[u8], rows: &[u8], first: usize, bounds: &[u16], to: &mut [u8]) -> Pass
+    requires { ⌜ Redex (now rows) × ZipsFrom (rowTable (now rows)) first × BoundsAt (rowTable (now rows)) first (nNo (rowNo (rowTable (now rows)) 0)) (now bounds) × (length (now to) ≤ 32768) ⌝ }
+    ensures { λ x. ⌜ MadeAtOnce (formOf (typeTable (now (types .entry)))) (rowTable (now (rows .entry))) (rowTable (now (to .exit))) x ⌝ }
+{
+    let r = places::row_of(rows, 0);
+    let c = places::row_of(rows, 1);
+    let n = r.n as usize;
+    let m = c.n;
+    if !all_lists(rows, first, n, m, bounds) {
+        return Pass::Unknown;
+    }
+    let room = layout::term_rows(to);
+    let old = layout::term_rows(rows);
+    if any_nil(rows, first, n, m, bounds) {
+        if room == 0 {
+            return Pass::Unknown;
+        }
+        crate::write_leaf(rows, 12, &mut to[..layout::TERM_ROW]);
+        return Pass::Made(old, 1);
+    }
+    let new = count_full(rows, first, bounds);
+    if room < new {
+        return Pass::Unknown;
+    }
+    let e = layout::TERM_ROW * new;
+    write_full(types, rows, first, bounds, &mut to[..e]);
+    Pass::Made(old, new)
 }
 
 // Where each of a zip's n arguments begins, from row `first` on. The last one ends where the rows end, so it is not walked.
