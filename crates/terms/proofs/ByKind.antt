@@ -12,6 +12,7 @@ use lib.ListN.{getD, List·getD-eq-default}
 use Rattle.meaning.specs.Bytes.{_∧ᵇ_, within}
 use Rattle.meaning.specs.Terms.{lit, str, arity, headFrom, Fields, words-from, none-used, kindFields, lastKind, withinOne, fits, rowFault}
 use Rattle.meaning.specs.declared.Fault.the-variants.{Kind, Field, Number}
+use Rattle.terms.specs.Tables.{childTable}
 
 -- a fact of each number below n, by its cases
 abbrev pub Below : (ℕ → Type 0) → ℕ → Type 0
@@ -79,6 +80,17 @@ fixed-at = ((((((((((((((((((((tt, (λ e n w. refl)), (λ e n w. refl)), (λ e n
 -- where n counts none, the kind alone tells
 pub arity-fixed : (k : ℕ) → k < 20 → Fixed k
 arity-fixed k h = below Fixed 20 fixed-at k h
+
+abbrev Listed : ℕ → Type 0
+Listed k = getD childTable k 0 < 64 → (n w : ℕ) → getD childTable k 0 ≡ arity (headFrom k n w)
+
+listed-at : Below Listed 20
+unfolding headFrom
+listed-at = ((((((((((((((((((((tt, (λ e n w. refl)), (λ e n w. refl)), (λ e n w. refl)), (λ e n w. refl)), (λ e n w. refl)), (λ e n w. refl)), (λ e n w. refl)), (λ e n w. refl)), (λ e. absurd (omega arith))), (λ e n w. refl)), (λ e n w. refl)), (λ e n w. refl)), (λ e n w. refl)), (λ e n w. refl)), (λ e n w. refl)), (λ e n w. refl)), (λ e. absurd (omega arith))), (λ e n w. refl)), (λ e n w. refl)), (λ e n w. refl))
+
+-- an entry of the table below 64 tells how many children a row of the kind has
+pub arity-listed : (k : ℕ) → k < 20 → Listed k
+arity-listed k h = below Listed 20 listed-at k h
 
 abbrev Few : ℕ → Type 0
 Few k = (k ≡ 8 → ⊥) → (k ≡ 16 → ⊥) → (n w : ℕ) → arity (headFrom k n w) ≤ 3

@@ -11,7 +11,7 @@ ghost use Prim.Native.Nat.{_+_, _/_, _≤_};
 ghost use lib.ListN.{length};
 ghost use Rattle.layout.specs.Rows.{numbers, rowTable, termRows};
 ghost use Rattle.meaning.specs.Terms.{arity, rowOf, size, treeAt, rowFault, shape, lastKind};
-ghost use Rattle.terms.specs.Tables.{faultOf, hop, HopsIn, Closed, Ends};
+ghost use Rattle.terms.specs.Tables.{childTable, faultOf, hop, HopsIn, Closed, Ends};
 
 // Whether a row's kind, fields and type number are in range.
 pub enum Faulty {
@@ -38,6 +38,25 @@ pub fn children(r: Row) -> usize
         return c + r.n as usize;
     }
     c
+}
+
+// By kind: how many children a row has, those that n counts not among them; 64 is added where n counts children.
+pub const CHILDREN: [u8; 20] = [0, 0, 0, 0, 0, 0, 1, 0, 65, 0, 3, 1, 0, 2, 1, 1, 64, 1, 1, 2];
+
+// How many children a row has, by the table of them.
+pub fn listed(table: &[u8], r: Row) -> usize
+    requires { ⌜ now table ≡ childTable ⌝ }
+    ensures { λ c. ⌜ (c ≡ arity (rowOf (numbers r) .head)) × (c ≤ 256) ⌝ }
+{
+    let k = r.kind as usize;
+    if 19 < k {
+        return 0;
+    }
+    let c = table[k];
+    if c < 64 {
+        return c as usize;
+    }
+    children(r)
 }
 
 // The last kind that an edition of the file knows.
@@ -112,6 +131,21 @@ pub fn end_of(rows: &[u8], at: usize) -> usize
     let mut i = at;
     while 0 < owed {
         owed = owed - 1 + children(layout::row_at(rows, i));
+        i += 1;
+    }
+    i
+}
+
+// The same of a tree that may have many rows: the table of children is made once.
+pub fn far_end(rows: &[u8], at: usize) -> usize
+    requires { ⌜ (length (now rows) ≤ 32768) × (at + size (treeAt (termRows (now rows)) at) ≤ length (now rows) / 8) ⌝ }
+    ensures { λ r. ⌜ r ≡ at + size (treeAt (termRows (now (rows .entry))) at) ⌝ }
+{
+    let table = CHILDREN;
+    let mut owed: usize = 1;
+    let mut i = at;
+    while 0 < owed {
+        owed = owed - 1 + listed(&table, layout::row_at(rows, i));
         i += 1;
     }
     i
