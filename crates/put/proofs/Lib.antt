@@ -5,3 +5,4 @@ pub mod Meets
 pub mod Rows
 pub mod Bare
 pub mod Once
+pub mod Skipping

@@ -14,9 +14,23 @@ use Rattle.put.specs.Put.{standing, rowsFor, after, chosen, run, below, 
 use Rattle.put.proofs.Turning.{below-on}
 use Rattle.put.proofs.Passing.{chosen-below, run-none}
 
-owed-fits : (l : List Row) (n i : ℕ) → n ≤ sizes (grove l i n)
+pub owed-fits : (l : List Row) (n i : ℕ) → n ≤ sizes (grove l i n)
 owed-fits l zero i = omega arith
 owed-fits l (suc n) i = omega (arith, grove-size l i n, size-some (treeAt l i), owed-fits l n (i + size (treeAt l i)))
+
+-- a row that is there is read, whatever is read elsewhere
+pub row-any : (l : List (List ℕ)) (i : ℕ) (r : List ℕ) → i < length l → getD l i [] ≡ r → getD (map rowOf l) i (rowOf r) ≡ rowOf r
+row-any l i r h e = List·getD-map rowOf l i r ∙ ap rowOf (go l i h e)
+  where
+    go : (k : List (List ℕ)) (j : ℕ) → j < length k → getD k j [] ≡ r → getD k j r ≡ r
+    go [] j h e = absurd (omega arith)
+    go (y ∷ k) zero h e = e
+    go (y ∷ k) (suc j) h e = go k j (omega arith) e
+
+-- the trees owed from row i on end where those owed from the next row on do
+pub owed-on : (l : List (List ℕ)) (i owed : ℕ) → (owed ≡ 0 → ⊥) → (r : List ℕ) → i < length l → getD l i [] ≡ r
+    → i + sizes (grove (map rowOf l) i owed) ≡ i + 1 + sizes (grove (map rowOf l) (i + 1) (owed - 1 + arity (rowOf r .head)))
+owed-on l i owed n r h e = owed-step (map rowOf l) i owed n (rowOf r) (omega (arith, h, length-map l rowOf)) (row-any l i r h e)
 
 pub standing-length : (l : List (List ℕ)) (from to : ℕ) → from ≤ to → to ≤ length l → length (standing l from to) ≡ to - from
 standing-length l from to h k = length-take-le (to - from) (drop from l) (rw length-drop (omega arith))
@@ -86,12 +100,7 @@ module _ {l : List (List ℕ)} {body : ℕ} {names bounds : List ℕ} (ready : R
       -- row i is read
       module _ {r : List ℕ} (g : getD l i [] ≡ r) where
         on : i + sizes (grove L i owed) ≡ i + 1 + sizes (grove L (i + 1) (owed - 1 + arity (rowOf r .head)))
-        on = owed-step L i owed positive (rowOf r) (omega (arith, going-in .0, length-map l rowOf)) (List·getD-map rowOf l i r ∙ ap rowOf (row-at-any l i r (going-in .0) g))
-          where
-            row-at-any : (k : List (List ℕ)) (j : ℕ) (x : List ℕ) → j < length k → getD k j [] ≡ x → getD k j x ≡ x
-            row-at-any [] j x h e = absurd (omega arith)
-            row-at-any (y ∷ k) zero x h e = e
-            row-at-any (y ∷ k) (suc j) x h e = row-at-any k j x (omega arith) e
+        on = owed-on l i owed positive r (going-in .0) g
 
         pub going-room : owed - 1 + arity (rowOf r .head) ≤ length masks
         going-room = omega (arith, on, go .ends, go .long, ready .whole, ready .few, owed-fits L (owed - 1 + arity (rowOf r .head)) (i + 1))

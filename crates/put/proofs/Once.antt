@@ -7,7 +7,7 @@ use mathlib.Core.Option.{Option, none, some}
 use native.Mathlib.Omega.{arith}
 use native.Mathlib.Decide.{decLt, ℕ-discrete}
 use lib.Dec.{eqb, leb}
-use lib.ListN.{length, getD, take, drop, length-append, length-map, length-replicate, List·getD-map, take-append-drop}
+use lib.ListN.{length, getD, take, drop, length-append, length-map, length-replicate, take-append-drop}
 use lib.Seq.{drop-drop}
 use borrow.Author.Tests.{eqb-true, eq-eqb, ne-eqb, leb-false}
 use Rattle.meaning.specs.Types.{Form, Param, params, names as namesOf, find, low, rest, formNo, parts}
@@ -23,7 +23,7 @@ use Rattle.put.specs.declared.Turn.the-variants.{Stands, Whole, Puts}
 use Rattle.put.proofs.Turning.{binds-fun, chosen-var, chosen-none, span-at, span-own, below-on}
 use Rattle.put.proofs.Passing.{mark-picks, at-row}
 use Rattle.put.proofs.Meets.{stands}
-use Rattle.put.proofs.Loops.{Going, left, standing-length, going-start, going-end, going-in, copied-span, going-next, written-start, turned, none-left}
+use Rattle.put.proofs.Loops.{Going, left, row-any, standing-length, going-start, going-end, going-in, copied-span, going-next, written-start, turned, none-left}
 use Rattle.put.proofs.Bare.{unhidden, none-hidden, bare-other, bare-let, bare-descends, first-bare, end-bare, standing-join, standing-none, piece-written, pending-next}
 
 -- The names of a function ------------------------------------------------------------------------------------------
@@ -270,13 +270,8 @@ module _ {l : List (List ℕ)} {body : ℕ} {names bounds : List ℕ} (ready : R
 
         -- the row and all its trees stand
         module _ (exact : Exact l) (c : chosen names (rowOf r .head) 0 ≡ none) (s : (k : ℕ) → Shut names (inner form names (rowOf r .head) (rowOf r .type) 0 k)) where
-          row-any : (k : List (List ℕ)) (j : ℕ) (x : List ℕ) → j < length k → getD k j [] ≡ x → getD k j x ≡ x
-          row-any [] j x h e = absurd (omega arith)
-          row-any (y ∷ k) zero x h e = e
-          row-any (y ∷ k) (suc j) x h e = row-any k j x (omega arith) e
-
           there : treeAt L i ≡ node (rowOf r .head) (rowOf r .type) (grove L (i + 1) (arity (rowOf r .head)))
-          there = tree-row L i (rowOf r) (rowOf r) (omega (arith, onward-in .0, length-map l rowOf)) (List·getD-map rowOf l i r ∙ ap rowOf (row-any l i r (onward-in .0) g))
+          there = tree-row L i (rowOf r) (rowOf r) (omega (arith, onward-in .0, length-map l rowOf)) (row-any l i r (onward-in .0) g)
 
           abbrev E : ℕ
           E = i + size (treeAt L i)

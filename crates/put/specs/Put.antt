@@ -7,9 +7,12 @@ use mathlib.Core.Option.{Option, none, some}
 use lib.Dec.{eqb}
 use lib.ListN.{length, getD, take, drop}
 use Rattle.meaning.specs.Types.{Form, Param, params, find, low, rest}
-use Rattle.meaning.specs.Terms.{Head, arity, code, wordOf, Row, rowOf, raw, size, treeAt}
+use Rattle.meaning.specs.Terms.{Head, arity, code, wordOf, Row, rowOf, raw, size, sizes, treeAt, grove}
 use Rattle.meaning.specs.Steps.{_∨ᵇ_}
+use Rattle.layout.specs.Rows.{numbers}
+use Rattle.layout.specs.declared.Row.{Row as Line}
 use Rattle.put.specs.declared.Range.{Range}
+use Rattle.put.specs.declared.Scan.{Scan}
 use Rattle.put.specs.declared.Turn.{Turn}
 use Rattle.put.specs.declared.Turn.the-variants.{Stands, Whole, Puts, Mixed}
 use Rattle.put.specs.declared.Pass.{Pass}
@@ -135,6 +138,22 @@ pub record Within (names : List ℕ) (x : Range) : Type 0 where
   pub ordered : x .low ≤ x .high
   pub small : x .high ≤ 65535
   pub each : (j : ℕ) → j < length names → (x .low ≤ getD names j 0) × (getD names j 0 ≤ x .high)
+
+-- the trees owed where a pass stands end within the rows
+pub record Owing (l : List (List ℕ)) (at : Scan) : Type 0 where
+  pub few : length l ≤ 2048
+  pub within : at .i + sizes (grove (map rowOf l) (at .i) (at .owed)) ≤ length l
+
+-- row i is no function, and its word is not in a range: it is none of the names there, and hides none
+pub record Clear (l : List (List ℕ)) (x : Range) (i : ℕ) (r : Line) : Type 0 where
+  pub there : getD l i [] ≡ numbers r
+  pub other : r .kind ≡ 6 → ⊥
+  pub out : x .low ≤ r .word → r .word ≤ x .high → ⊥
+
+-- such rows are passed, from row i on, where some trees are owed, to before another row, where others are
+pub data Skips (l : List (List ℕ)) (x : Range) (i owed : ℕ) : ℕ → ℕ → Type 0 where
+  still : Skips l x i owed i owed
+  past : {j n : ℕ} → Skips l x i owed j n → 0 < n → (r : Line) → Clear l x j r → Skips l x i owed (j + 1) (n - 1 + arity (rowOf (numbers r) .head))
 
 -- under this mask no name is put
 abbrev pub Shut : List ℕ → ℕ → Type 0

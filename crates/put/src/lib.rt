@@ -13,7 +13,7 @@ ghost use Rattle.meaning.specs.Types.{formOf, find, params, names as namesOf};
 ghost use Rattle.meaning.specs.Terms.{arity, rowOf};
 ghost use Rattle.meaning.specs.Steps.{_∨ᵇ_};
 ghost use Rattle.terms.specs.Masks.{bit};
-ghost use Rattle.put.specs.Put.{standing, pick, chosen, told, binds, mark, Bare, firstRow, endRow, Descends, Ready, putRows, Among, Widens, Within, Turns, Exact, Passes};
+ghost use Rattle.put.specs.Put.{standing, pick, chosen, told, binds, mark, Bare, firstRow, endRow, Descends, Ready, putRows, Among, Widens, Within, Owing, Skips, Turns, Exact, Passes};
 
 // The rows that are copied for a row: from and to.
 pub struct Span {
@@ -443,6 +443,53 @@ fn may_touch(r: Row, x: Range) -> bool
     (r.word as usize + WORDS - low) % WORDS <= x.high - low
 }
 
+// Where a pass over rows stands: the row, and how many trees are still owed.
+pub struct Scan {
+    pub i: usize,
+    pub owed: usize,
+}
+
+// The next row that may be one of the names in a range or hide one, or the end. For many rows: the table of children is made once.
+fn far_skip(rows: &[u8], at: Scan, x: Range) -> Scan
+    requires { ⌜ Owing (rowTable (now rows)) at × (x .low ≤ x .high) × (x .high ≤ 65535) ⌝ }
+    ensures { λ s. ⌜ Skips (rowTable (now (rows .entry))) x (at .i) (at .owed) (s .i) (s .owed) ⌝ }
+{
+    let table = terms::CHILDREN;
+    let mut i = at.i;
+    let mut owed = at.owed;
+    while 0 < owed {
+        let r = layout::row_at(rows, i);
+        if may_touch(r, x) {
+            return Scan { i: i, owed: owed };
+        }
+        owed = owed - 1 + terms::listed(&table, r);
+        i += 1;
+    }
+    Scan { i: i, owed: owed }
+}
+
+// The same: sixteen rows without the table, which costs more to make than so few rows to pass, and the others with it.
+fn skip(rows: &[u8], at: Scan, x: Range) -> Scan
+    requires { ⌜ Owing (rowTable (now rows)) at × (x .low ≤ x .high) × (x .high ≤ 65535) ⌝ }
+    ensures { λ s. ⌜ Skips (rowTable (now (rows .entry))) x (at .i) (at .owed) (s .i) (s .owed) ⌝ }
+{
+    let near = at.i + 16;
+    let mut i = at.i;
+    let mut owed = at.owed;
+    while 0 < owed {
+        if i == near {
+            return far_skip(rows, Scan { i: i, owed: owed }, x);
+        }
+        let r = layout::row_at(rows, i);
+        if may_touch(r, x) {
+            return Scan { i: i, owed: owed };
+        }
+        owed = owed - 1 + terms::children(r);
+        i += 1;
+    }
+    Scan { i: i, owed: owed }
+}
+
 // What a pass does at a row.
 pub enum Turn {
     // the row stands, and its trees come next
@@ -490,8 +537,9 @@ pub enum Pass {
     Unknown,
 }
 
-// The rows of the body at a row with the arguments put, in one pass, into a table that may have more room. Rows that stand side by side are copied
-// at once. It knows nothing where there is no room, or where a row hides some of the names.
+// The rows of the body at a row with the arguments put, in one pass, into a table that may have more room. Rows that no name touches are passed in
+// a loop of their own, and rows that stand side by side are copied at once. It knows nothing where there is no room, or where a row hides some of
+// the names.
 pub fn put_once(
     types: &[u8],
     rows: &[u8],
@@ -505,55 +553,71 @@ pub fn put_once(
 {
     let room = layout::term_rows(to);
     let x = range_of(names);
-    let mut owed: usize = 1;
-    let mut i = body;
     let mut from = body;
     let mut w: usize = 0;
-    while 0 < owed {
+    let mut at = skip(rows, Scan { i: body, owed: 1 }, x);
+    while 0 < at.owed {
+        let i = at.i;
+        let owed = at.owed;
         let r = layout::row_at(rows, i);
-        if may_touch(r, x) {
-            let t = turn_at(types, names, bounds, r);
-            match t {
-                Turn::Stands => {
-                    owed = owed - 1 + terms::children(r);
-                    i += 1;
-                }
-                Turn::Whole => {
-                    owed -= 1;
-                    i = terms::end_of(rows, i);
-                }
-                Turn::Puts(a, b) => {
-                    let n = (i - from) + (b - a);
-                    if room < w + n {
-                        return Pass::Unknown;
-                    }
-                    copy_both(
-                        to,
-                        w,
-                        rows,
-                        Span { from: from, to: i },
-                        Span { from: a, to: b },
-                    );
-                    owed = owed - 1 + terms::children(r);
-                    w += n;
-                    i += 1;
-                    from = i;
-                }
-                Turn::Mixed => {
+        let t = turn_at(types, names, bounds, r);
+        match t {
+            Turn::Stands => {
+                at = skip(
+                    rows,
+                    Scan {
+                        i: i + 1,
+                        owed: owed - 1 + terms::children(r),
+                    },
+                    x,
+                );
+            }
+            Turn::Whole => {
+                at = skip(
+                    rows,
+                    Scan {
+                        i: terms::end_of(rows, i),
+                        owed: owed - 1,
+                    },
+                    x,
+                );
+            }
+            Turn::Puts(a, b) => {
+                let n = (i - from) + (b - a);
+                if room < w + n {
                     return Pass::Unknown;
                 }
+                copy_both(
+                    to,
+                    w,
+                    rows,
+                    Span { from: from, to: i },
+                    Span { from: a, to: b },
+                );
+                w += n;
+                from = i + 1;
+                // a name's row has no children
+                at = skip(
+                    rows,
+                    Scan {
+                        i: i + 1,
+                        owed: owed - 1,
+                    },
+                    x,
+                );
             }
-        } else {
-            owed = owed - 1 + terms::children(r);
-            i += 1;
+            Turn::Mixed => {
+                return Pass::Unknown;
+            }
         }
     }
-    let n = i - from;
+    let end = at.i;
+    let n = end - from;
     if room < w + n {
         return Pass::Unknown;
     }
     copy_rows(to, w, rows, from, n);
-    Pass::Made(i, w + n)
+    Pass::Made(end, w + n)
 }
 
 // A new row, the i-th of a table.
