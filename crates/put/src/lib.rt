@@ -537,10 +537,74 @@ pub enum Pass {
     Unknown,
 }
 
-// The rows of the body at a row with the arguments put, in one pass, into a table that may have more room. Rows that no name touches are passed in
-// a loop of their own, and rows that stand side by side are copied at once. It knows nothing where there is no room, or where a row hides some of
-// the names.
-pub fn put_once(
+// The rows of the body at a row with the arguments put, in one pass, into a table that may have more room. Rows that stand side by side are copied
+// at once. It knows nothing where there is no room, or where a row hides some of the names. This one goes row by row.
+fn put_near(
+    types: &[u8],
+    rows: &[u8],
+    body: usize,
+    names: &[u16],
+    bounds: &[u16],
+    to: &mut [u8],
+) -> Pass
+    requires { ⌜ Ready (rowTable (now rows)) body (now names) (now bounds) × Exact (rowTable (now rows)) × (length (now to) ≤ 32768) ⌝ }
+    ensures { λ p. ⌜ Passes (formOf (typeTable (now (types .entry)))) (rowTable (now (rows .entry))) body (now (names .entry)) (now (bounds .entry)) (rowTable (now (to .exit))) p ⌝ }
+{
+    let room = layout::term_rows(to);
+    let x = range_of(names);
+    let mut owed: usize = 1;
+    let mut i = body;
+    let mut from = body;
+    let mut w: usize = 0;
+    while 0 < owed {
+        let r = layout::row_at(rows, i);
+        if may_touch(r, x) {
+            let t = turn_at(types, names, bounds, r);
+            match t {
+                Turn::Stands => {
+                    owed = owed - 1 + terms::children(r);
+                    i += 1;
+                }
+                Turn::Whole => {
+                    owed -= 1;
+                    i = terms::end_of(rows, i);
+                }
+                Turn::Puts(a, b) => {
+                    let n = (i - from) + (b - a);
+                    if room < w + n {
+                        return Pass::Unknown;
+                    }
+                    copy_both(
+                        to,
+                        w,
+                        rows,
+                        Span { from: from, to: i },
+                        Span { from: a, to: b },
+                    );
+                    owed = owed - 1 + terms::children(r);
+                    w += n;
+                    i += 1;
+                    from = i;
+                }
+                Turn::Mixed => {
+                    return Pass::Unknown;
+                }
+            }
+        } else {
+            owed = owed - 1 + terms::children(r);
+            i += 1;
+        }
+    }
+    let n = i - from;
+    if room < w + n {
+        return Pass::Unknown;
+    }
+    copy_rows(to, w, rows, from, n);
+    Pass::Made(i, w + n)
+}
+
+// The same, where rows that no name touches are passed in a loop of their own.
+fn put_far(
     types: &[u8],
     rows: &[u8],
     body: usize,
@@ -618,6 +682,27 @@ pub fn put_once(
     }
     copy_rows(to, w, rows, from, n);
     Pass::Made(end, w + n)
+}
+
+// Rows from which on a pass goes by `put_far`: for fewer, to call its inner loop costs more than the loop saves.
+const MANY_ROWS: usize = 256;
+
+// The same, as it goes faster.
+pub fn put_once(
+    types: &[u8],
+    rows: &[u8],
+    body: usize,
+    names: &[u16],
+    bounds: &[u16],
+    to: &mut [u8],
+) -> Pass
+    requires { ⌜ Ready (rowTable (now rows)) body (now names) (now bounds) × Exact (rowTable (now rows)) × (length (now to) ≤ 32768) ⌝ }
+    ensures { λ p. ⌜ Passes (formOf (typeTable (now (types .entry)))) (rowTable (now (rows .entry))) body (now (names .entry)) (now (bounds .entry)) (rowTable (now (to .exit))) p ⌝ }
+{
+    if layout::term_rows(rows) < MANY_ROWS {
+        return put_near(types, rows, body, names, bounds, to);
+    }
+    put_far(types, rows, body, names, bounds, to)
 }
 
 // A new row, the i-th of a table.

@@ -14,8 +14,8 @@ use Rattle.put.specs.Put.{Passes}
 use Rattle.put.proofs.Rows.{row-read, row-in}
 use Rattle.put.proofs.Once.{Onward, onward-start, onward-end, onward-last, onward-in, onward-stands, onward-span, onward-puts, tree-in, onward-tree, turn-stands, turn-whole, turn-puts}
 use Rattle.put.proofs.Skipping.{chosen-leaf, skips-up, onward-owing, onward-skips}
-use Rattle.put.proofs.put_once.Statement.{statement}
-use Rattle.put.proofs.put_once.Tie as tie
+use Rattle.put.proofs.put_far.Statement.{statement}
+use Rattle.put.proofs.put_far.Tie as tie
 
 abbrev Inv-loop : tie.InvT-loop
 Inv-loop types rows body names bounds to₀ room x from₀ w₀ at₀ to from w at = Onward (formOf (typeTable types)) (rowTable rows) body names bounds (rowTable to) (at .owed) (at .i) from w × (length to ≡ length to₀)
@@ -23,8 +23,8 @@ Inv-loop types rows body names bounds to₀ room x from₀ w₀ at₀ to from w 
 abbrev μ-loop : tie.MeasureT-loop
 μ-loop types rows body names bounds to₀ room x from₀ w₀ at₀ to from w at = length (rowTable rows) - at .i
 
-pub put-once-spec : {M : Type 1} → statement M
-put-once-spec =
+pub put-far-spec : {M : Type 1} → statement M
+put-far-spec =
     tie.close
     (tie.spec
     Inv-loop
