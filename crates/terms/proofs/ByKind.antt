@@ -8,9 +8,10 @@ use native.Mathlib.Omega.{arith}
 use native.Mathlib.Decide.{ℕ-discrete, decLt}
 use lib.Dec.{leb, ltb}
 use borrow.Author.Tests.{ne-eqb, le-leb, lt-leb, lt-ltb, le-ltb}
-use lib.ListN.{getD, List·getD-eq-default}
-use Rattle.meaning.specs.Bytes.{_∧ᵇ_, within}
-use Rattle.meaning.specs.Terms.{lit, str, arity, headFrom, Fields, words-from, none-used, kindFields, lastKind, withinOne, fits, rowFault}
+use lib.ListN.{getD, drop, List·getD-eq-default}
+use Rattle.layout.proofs.Laws.{term-row}
+use Rattle.meaning.specs.Bytes.{number, read, termRow, _∧ᵇ_, within}
+use Rattle.meaning.specs.Terms.{lit, str, arity, headFrom, kindNo, nNo, wordNo, rowOf, Fields, words-from, none-used, kindFields, lastKind, withinOne, fits, rowFault}
 use Rattle.meaning.specs.declared.Fault.the-variants.{Kind, Field, Number}
 use Rattle.terms.specs.Tables.{childTable}
 
@@ -91,6 +92,14 @@ listed-at = ((((((((((((((((((((tt, (λ e n w. refl)), (λ e n w. refl)), (λ e 
 -- an entry of the table below 64 tells how many children a row of the kind has
 pub arity-listed : (k : ℕ) → k < 20 → Listed k
 arity-listed k h = below Listed 20 listed-at k h
+
+-- the same of the row whose kind is byte p
+pub arity-at : (s : List ℕ) (p k : ℕ) → getD s p 0 ≡ k → k < 20 → getD childTable k 0 < 64 → arity (rowOf (read termRow (drop p s)) .head) ≡ getD childTable k 0
+unfolding rowOf
+arity-at s p k e h few =
+    ap (λ (r : List ℕ). arity (headFrom (kindNo r) (nNo r) (wordNo r))) (term-row p s)
+    ∙ ap (λ (x : ℕ). arity (headFrom x (getD s (p + 1) 0) (number 4 (drop (p + 4) s)))) e
+    ∙ sym (arity-listed k h few (getD s (p + 1) 0) (number 4 (drop (p + 4) s)))
 
 abbrev Few : ℕ → Type 0
 Few k = (k ≡ 8 → ⊥) → (k ≡ 16 → ⊥) → (n w : ℕ) → arity (headFrom k n w) ≤ 3

@@ -17,7 +17,7 @@ use Rattle.meaning.specs.declared.Fault.the-variants.{Behind, Unfinished}
 use Rattle.meaning.specs.declared.Shape.{Shape}
 use Rattle.meaning.specs.declared.Shape.the-variants.{Whole, Bad}
 use Rattle.meaning.proofs.Trees.Parse.{sizes-split, grove-more, tree-row}
-use Rattle.terms.specs.Tables.{Closed, hop, HopsIn}
+use Rattle.terms.specs.Tables.{Links, Closed, hop, HopsIn}
 
 -- Shape ----------------------------------------------------------------------------------------------------------
 
@@ -223,3 +223,19 @@ module _ (l : List Row) (i owed : ℕ) (z : owed ≡ 0 → ⊥) where
           let q : suc k - 1 + arity (r .head) ≡ k + arity (r .head) = omega arith in
           let p : drop i l ≡ r ∷ drop (suc i) l = drop-cons l i r h ∙ ap (λ (x : Row). x ∷ drop (suc i) l) e in
           rw (add-one, p, q) (omega (arith, sizes-split (arity (r .head)) k (trees (drop (suc i) l))))
+
+-- the same at a table of bytes: a row whose children are counted; and a row with two, of which the first has one row
+pub owed-row : (s : List ℕ) (i owed : ℕ) → (owed ≡ 0 → ⊥) → (r : List ℕ) (a : ℕ) → i < length s / 8 → r ≡ read termRow (drop (8 * i) s) → a ≡ arity (rowOf r .head)
+    → i + sizes (grove (termRows s) i owed) ≡ i + 1 + sizes (grove (termRows s) (i + 1) (owed - 1 + a))
+owed-row s i owed z r a h e q =
+    let g = row-in s i r h e in
+    owed-step (termRows s) i owed z (rowOf r) (g .0) (g .1) ∙ ap (λ (x : ℕ). i + 1 + sizes (grove (termRows s) (i + 1) (owed - 1 + x))) (sym q)
+
+pub owed-link : (s : List ℕ) (i owed : ℕ) → (owed ≡ 0 → ⊥) → Links s i → i + sizes (grove (termRows s) i owed) ≡ i + 2 + sizes (grove (termRows s) (i + 2) owed)
+owed-link s i owed z k =
+    let more : owed - 1 + 2 ≡ 0 → ⊥ = λ e. omega arith in
+    let left : owed - 1 + 2 - 1 + 0 ≡ owed = omega (arith, z) in
+    let on : i + 1 + 1 ≡ i + 2 = omega arith in
+    owed-row s i owed z _ 2 (omega (arith, k .there)) refl (sym (k .two))
+    ∙ owed-row s (i + 1) (owed - 1 + 2) more _ 0 (omega (arith, k .there)) refl (sym (k .leaf))
+    ∙ rw (left, on) refl

@@ -1,17 +1,24 @@
 -- The children of each kind in a table, the fault that code names of a row, and where the trees of a table end. Assumes nothing.
-use Prim.Native.Nat.{ℕ, zero, suc, _+_, _≤_, _<_}
+use Prim.Native.Nat.{ℕ, zero, suc, _+_, _*_, _≤_, _<_}
 use mathlib.Core.Path.{_≡_}
 use mathlib.Core.List.{List, [], _∷_}
 use mathlib.Core.Option.{Option, none, some}
-use lib.ListN.{length, getD}
+use lib.ListN.{length, getD, drop}
+use Rattle.meaning.specs.Bytes.{read, termRow}
 use Rattle.meaning.specs.declared.Fault.{Fault}
-use Rattle.meaning.specs.Terms.{Row, size, treeAt}
+use Rattle.meaning.specs.Terms.{Row, arity, rowOf, size, treeAt}
 use Rattle.terms.specs.declared.Faulty.{Faulty}
 use Rattle.terms.specs.declared.Faulty.the-variants as variants
 
 -- by kind, how many children a row has, those that n counts not among them; 64 more where n counts children
 abbrev pub childTable : List ℕ
 childTable = 0 ∷ 0 ∷ 0 ∷ 0 ∷ 0 ∷ 0 ∷ 1 ∷ 0 ∷ 65 ∷ 0 ∷ 3 ∷ 1 ∷ 0 ∷ 2 ∷ 1 ∷ 1 ∷ 64 ∷ 1 ∷ 1 ∷ 2 ∷ []
+
+-- row i has two children, and the row behind it is there and has none: a cons with a head of one row
+pub record Links (s : List ℕ) (i : ℕ) : Type 0 where
+  pub there : 8 * i + 16 ≤ length s
+  pub two : arity (rowOf (read termRow (drop (8 * i) s)) .head) ≡ 2
+  pub leaf : arity (rowOf (read termRow (drop (8 * (i + 1)) s)) .head) ≡ 0
 
 abbrev pub faultOf : Faulty → Option Fault
 faultOf variants.Sane = none

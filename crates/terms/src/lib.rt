@@ -7,11 +7,12 @@ use layout::Row;
 use meaning::Fault;
 use meaning::Shape;
 ghost use mathlib.Core.Path.{_≡_};
-ghost use Prim.Native.Nat.{_+_, _/_, _≤_};
+ghost use mathlib.Core.Bool.{true};
+ghost use Prim.Native.Nat.{_+_, _*_, _/_, _≤_};
 ghost use lib.ListN.{length};
 ghost use Rattle.layout.specs.Rows.{numbers, rowTable, termRows};
 ghost use Rattle.meaning.specs.Terms.{arity, rowOf, size, treeAt, rowFault, shape, lastKind};
-ghost use Rattle.terms.specs.Tables.{childTable, faultOf, hop, HopsIn, Closed, Ends};
+ghost use Rattle.terms.specs.Tables.{childTable, Links, faultOf, hop, HopsIn, Closed, Ends};
 
 // Whether a row's kind, fields and type number are in range.
 pub enum Faulty {
@@ -40,7 +41,10 @@ pub fn children(r: Row) -> usize
     c
 }
 
-// By kind: how many children a row has, those that n counts not among them; 64 is added where n counts children.
+// What the table of children adds where n counts some.
+const BY_N_MARK: u8 = 64;
+
+// By kind: how many children a row has, those that n counts not among them; BY_N_MARK is added where n counts children.
 pub const CHILDREN: [u8; 20] = [0, 0, 0, 0, 0, 0, 1, 0, 65, 0, 3, 1, 0, 2, 1, 1, 64, 1, 1, 2];
 
 // How many children a row has, by the table of them.
@@ -53,10 +57,29 @@ pub fn listed(table: &[u8], r: Row) -> usize
         return 0;
     }
     let c = table[k];
-    if c < 64 {
+    if c < BY_N_MARK {
         return c as usize;
     }
     children(r)
+}
+
+// Whether at row i stands a cons with a head of one row, by the table of children.
+fn links(table: &[u8], rows: &[u8], i: usize) -> bool
+    requires { ⌜ (now table ≡ childTable) × (8 * i + 8 ≤ length (now rows)) ⌝ }
+    ensures { λ b. ⌜ (b ≡ true → Links (now (rows .entry)) i) ⌝ }
+{
+    let at = layout::TERM_ROW * i;
+    if rows[at] != 13 {
+        return false;
+    }
+    if rows.len() - at < 2 * layout::TERM_ROW {
+        return false;
+    }
+    let k = rows[at + layout::TERM_ROW] as usize;
+    if 19 < k {
+        return false;
+    }
+    table[k] == 0
 }
 
 // The last kind that an edition of the file knows.
@@ -136,7 +159,7 @@ pub fn end_of(rows: &[u8], at: usize) -> usize
     i
 }
 
-// The same of a tree that may have many rows: the table of children is made once.
+// The same of a tree that may have many rows: the table of children is made once, and a list's elements of one row are passed two rows at a time.
 pub fn far_end(rows: &[u8], at: usize) -> usize
     requires { ⌜ (length (now rows) ≤ 32768) × (at + size (treeAt (termRows (now rows)) at) ≤ length (now rows) / 8) ⌝ }
     ensures { λ r. ⌜ r ≡ at + size (treeAt (termRows (now (rows .entry))) at) ⌝ }
@@ -145,8 +168,12 @@ pub fn far_end(rows: &[u8], at: usize) -> usize
     let mut owed: usize = 1;
     let mut i = at;
     while 0 < owed {
-        owed = owed - 1 + listed(&table, layout::row_at(rows, i));
-        i += 1;
+        if links(&table, rows, i) {
+            i += 2;
+        } else {
+            owed = owed - 1 + listed(&table, layout::row_at(rows, i));
+            i += 1;
+        }
     }
     i
 }

@@ -3,8 +3,8 @@ use Prim.Native.Nat.{ℕ, _+_, _*_, _-_, _/_, _≤_}
 use mathlib.Core.Path.{_≡_, sym, ap, _∙_}
 use lib.ListN.{length}
 use Rattle.layout.specs.Rows.{numbers, termRows}
-use Rattle.meaning.specs.Terms.{arity, rowOf, size, sizes, treeAt, grove}
-use Rattle.terms.proofs.Scan.{grove-size, grove-none, row-in, owed-some, owed-step}
+use Rattle.meaning.specs.Terms.{size, sizes, treeAt, grove}
+use Rattle.terms.proofs.Scan.{grove-size, grove-none, owed-some, owed-row}
 use borrow.Author.Needs.{needs}
 use native.Mathlib.Omega.{arith}
 use Rattle.terms.proofs.end_of.Statement.{statement}
@@ -63,14 +63,10 @@ end-of-spec =
     let a = c .before .before .before .before .before .args in
     let p = c .before .before .before .before .before .pre in
     let w = c .before .before .before .loop in
-    let l = termRows (a .rows .now) in
     let z : w .owed ≡ 0 → ⊥ = omega (arith, c .before .before .loop-test .taken) in
-    let some = owed-some l (w .i) (w .owed) z in
-    let r = c .before .row-at .result in
-    let g = row-in (a .rows .now) (w .i) (numbers r) (omega (arith, p .1, w .inv .0)) (c .before .row-at .ensures) in
-    let s = owed-step l (w .i) (w .owed) z (rowOf (numbers r)) (g .0) (g .1) in
-    let e : w .owed - 1 + c .children .result ≡ w .owed - 1 + arity (rowOf (numbers r) .head) = ap (λ (x : ℕ). w .owed - 1 + x) (c .children .ensures .0) in
-    (ap (λ (x : ℕ). w .i + 1 + sizes (grove l (w .i + 1) x)) e ∙ sym s ∙ w .inv .0, omega (arith, w .inv .1, c .children .ensures .1)))
+    let some = owed-some (termRows (a .rows .now)) (w .i) (w .owed) z in
+    let s = owed-row (a .rows .now) (w .i) (w .owed) z (numbers (c .before .row-at .result)) (c .children .result) (omega (arith, p .1, w .inv .0)) (c .before .row-at .ensures) (c .children .ensures .0) in
+    (sym s ∙ w .inv .0, omega (arith, w .inv .1, c .children .ensures .1)))
     -- returns
     (λ c.
     let a = c .before .before .before .args in

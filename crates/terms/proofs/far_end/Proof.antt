@@ -3,8 +3,8 @@ use Prim.Native.Nat.{ℕ, _+_, _*_, _-_, _/_, _≤_}
 use mathlib.Core.Path.{_≡_, refl, sym, ap, _∙_}
 use lib.ListN.{length}
 use Rattle.layout.specs.Rows.{numbers, termRows}
-use Rattle.meaning.specs.Terms.{arity, rowOf, size, sizes, treeAt, grove}
-use Rattle.terms.proofs.Scan.{grove-size, grove-none, row-in, owed-some, owed-step}
+use Rattle.meaning.specs.Terms.{size, sizes, treeAt, grove}
+use Rattle.terms.proofs.Scan.{grove-size, grove-none, owed-some, owed-row, owed-link}
 use native.Mathlib.Omega.{arith}
 use Rattle.terms.proofs.far_end.Statement.{statement}
 use Rattle.terms.proofs.far_end.Tie as tie
@@ -27,50 +27,64 @@ far-end-spec =
     let a = c .before .args in
     let l = termRows (a .rows .now) in
     (omega (arith, grove-size l (a .at) 0, grove-none l (a .at + size (treeAt l (a .at)))), omega arith))
-    (λ c. omega arith)
     (λ c. refl)
-    -- row-at-requires
+    -- links-requires
     (λ c κs.
     let a = c .before .before .before .before .args in
     let p = c .before .before .before .before .pre in
     let w = c .before .before .loop in
     let some = owed-some (termRows (a .rows .now)) (w .i) (w .owed) (omega (arith, c .before .loop-test .taken)) in
+    (refl, omega (arith, p .1, w .inv .0)))
+    -- add-i
+    (λ c. omega (arith, c .before .links .ensures (c .if1 .taken) .there))
+    -- loop-less
+    (λ c. omega (arith, c .before .links .ensures (c .if1 .taken) .there))
+    -- loop-again
+    (λ c.
+    let w = c .before .before .before .before .loop in
+    let z : w .owed ≡ 0 → ⊥ = omega (arith, c .before .before .before .loop-test .taken) in
+    (sym (owed-link _ (w .i) (w .owed) z (c .before .links .ensures (c .if1 .taken))) ∙ w .inv .0, omega (arith, w .inv .1)))
+    -- sub-owed
+    (λ c. omega (arith, c .before .before .before .loop-test .taken))
+    (λ c. refl)
+    -- row-at-requires
+    (λ c κs.
+    let a = c .before .before .before .before .before .before .before .args in
+    let p = c .before .before .before .before .before .before .before .pre in
+    let w = c .before .before .before .before .before .loop in
+    let some = owed-some (termRows (a .rows .now)) (w .i) (w .owed) (omega (arith, c .before .before .before .before .loop-test .taken)) in
     omega (arith, p .1, w .inv .0))
     (λ c κs. refl)
     -- add-owed
     (λ c.
-    let a = c .before .before .before .before .before .before .args in
-    let p = c .before .before .before .before .before .before .pre in
-    let w = c .before .before .before .before .loop in
-    let some = owed-some (termRows (a .rows .now)) (w .i) (w .owed) (omega (arith, c .before .before .before .loop-test .taken)) in
+    let a = c .before .before .before .before .before .before .before .before .before .args in
+    let p = c .before .before .before .before .before .before .before .before .before .pre in
+    let w = c .before .before .before .before .before .before .before .loop in
+    let some = owed-some (termRows (a .rows .now)) (w .i) (w .owed) (omega (arith, c .before .before .before .before .before .before .loop-test .taken)) in
     omega (arith, p .0, p .1, w .inv .0, w .inv .1, c .listed .ensures .1))
-    -- add-i
+    -- add-i-2
     (λ c.
-    let a = c .before .before .before .before .before .before .args in
-    let p = c .before .before .before .before .before .before .pre in
-    let w = c .before .before .before .before .loop in
-    let some = owed-some (termRows (a .rows .now)) (w .i) (w .owed) (omega (arith, c .before .before .before .loop-test .taken)) in
+    let a = c .before .before .before .before .before .before .before .before .before .args in
+    let p = c .before .before .before .before .before .before .before .before .before .pre in
+    let w = c .before .before .before .before .before .before .before .loop in
+    let some = owed-some (termRows (a .rows .now)) (w .i) (w .owed) (omega (arith, c .before .before .before .before .before .before .loop-test .taken)) in
     omega (arith, p .0, p .1, w .inv .0))
-    -- loop-less
+    -- loop-less-2
     (λ c.
-    let a = c .before .before .before .before .before .before .args in
-    let p = c .before .before .before .before .before .before .pre in
-    let w = c .before .before .before .before .loop in
-    let some = owed-some (termRows (a .rows .now)) (w .i) (w .owed) (omega (arith, c .before .before .before .loop-test .taken)) in
+    let a = c .before .before .before .before .before .before .before .before .before .args in
+    let p = c .before .before .before .before .before .before .before .before .before .pre in
+    let w = c .before .before .before .before .before .before .before .loop in
+    let some = owed-some (termRows (a .rows .now)) (w .i) (w .owed) (omega (arith, c .before .before .before .before .before .before .loop-test .taken)) in
     omega (arith, p .1, w .inv .0))
-    -- loop-again
+    -- loop-again-2
     (λ c.
-    let a = c .before .before .before .before .before .before .args in
-    let p = c .before .before .before .before .before .before .pre in
-    let w = c .before .before .before .before .loop in
-    let l = termRows (a .rows .now) in
-    let z : w .owed ≡ 0 → ⊥ = omega (arith, c .before .before .before .loop-test .taken) in
-    let some = owed-some l (w .i) (w .owed) z in
-    let r = c .before .row-at .result in
-    let g = row-in (a .rows .now) (w .i) (numbers r) (omega (arith, p .1, w .inv .0)) (c .before .row-at .ensures) in
-    let s = owed-step l (w .i) (w .owed) z (rowOf (numbers r)) (g .0) (g .1) in
-    let e : w .owed - 1 + c .listed .result ≡ w .owed - 1 + arity (rowOf (numbers r) .head) = ap (λ (x : ℕ). w .owed - 1 + x) (c .listed .ensures .0) in
-    (ap (λ (x : ℕ). w .i + 1 + sizes (grove l (w .i + 1) x)) e ∙ sym s ∙ w .inv .0, omega (arith, w .inv .1, c .listed .ensures .1)))
+    let a = c .before .before .before .before .before .before .before .before .before .args in
+    let p = c .before .before .before .before .before .before .before .before .before .pre in
+    let w = c .before .before .before .before .before .before .before .loop in
+    let z : w .owed ≡ 0 → ⊥ = omega (arith, c .before .before .before .before .before .before .loop-test .taken) in
+    let some = owed-some (termRows (a .rows .now)) (w .i) (w .owed) z in
+    let s = owed-row (a .rows .now) (w .i) (w .owed) z (numbers (c .before .row-at .result)) (c .listed .result) (omega (arith, p .1, w .inv .0)) (c .before .row-at .ensures) (c .listed .ensures .0) in
+    (sym s ∙ w .inv .0, omega (arith, w .inv .1, c .listed .ensures .1)))
     -- returns
     (λ c.
     let a = c .before .before .before .args in
