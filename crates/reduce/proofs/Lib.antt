@@ -2,6 +2,7 @@ pub mod Quiet
 pub mod Roots
 pub mod Kept
 pub mod Bound
+pub mod Bounded
 pub mod Given
 pub mod Standing
 pub mod Zipped

@@ -101,7 +101,7 @@ pub fn zip_once(types: &[u8], rows: &[u8], to: &mut [u8]) -> Pass
     }
     let first = terms::end_of(rows, 1);
     let mut bounds = [0u16; 9];
-    puts::fill_bounds(rows, first, n, &mut bounds);
+    puts::fill_far(rows, first, n, &mut bounds);
     let e = layout::TERM_ROW * layout::wide(bounds[n]);
     zips::make_zip(types, &rows[..e], first, &bounds, to)
 }

@@ -93,6 +93,21 @@ pub fn fill_bounds(rows: &[u8], first: usize, n: usize, bounds: &mut [u16])
     }
 }
 
+// The same of trees that may have many rows.
+pub fn fill_far(rows: &[u8], first: usize, n: usize, bounds: &mut [u16])
+    requires { ⌜ (length (now bounds) ≡ 9) × (length (now rows) ≤ 32768) × (n ≤ 8) × (first + sizes (grove (map rowOf (rowTable (now rows))) first n) ≤ length (rowTable (now rows))) ⌝ }
+    ensures { λ _. ⌜ ((j : ℕ) → j ≤ n → getD (now (bounds .exit)) j 0 ≡ first + sizes (grove (map rowOf (rowTable (now (rows .entry)))) first j)) ⌝ }
+{
+    let mut at = first;
+    bounds[0] = first as u16;
+    let mut k: usize = 0;
+    while k < n {
+        at = terms::far_end(rows, at);
+        k += 1;
+        bounds[k] = at as u16;
+    }
+}
+
 // The lesser of two numbers.
 pub fn least(a: usize, b: usize) -> usize
     ensures { λ r. ⌜ r ≡ min a b ⌝ }

@@ -101,7 +101,7 @@ fn lists_from(rows: &[u8], first: usize, n: usize, m: u8) -> bool
     let mut k = n;
     while 1 < k {
         if ready_at(rows, at, h) {
-            at = terms::end_of(rows, at);
+            at = terms::far_end(rows, at);
             h = h / 2;
             k -= 1;
         } else {

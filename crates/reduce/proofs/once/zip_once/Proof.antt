@@ -39,7 +39,7 @@ zip-once-spec =
     let R = s .pre .0 in
     (omega (arith, R .few, row-table-length (s .args .rows .now)), omega (arith, R .inside, called-size T (R .inside) (s .pre .1), row-table-length (s .args .rows .now))))
     (λ c. search needs)
-    -- fill-bounds-requires
+    -- fill-far-requires
     (λ c κs.
     let s = c .before .before .before .before .before .before .before .before in
     let T = rowTable (s .args .rows .now) in
@@ -65,7 +65,7 @@ zip-once-spec =
     let first = c .before .before .before .before .end-of .result in
     let g : first ≡ 1 + size (treeAt L 1) = c .before .before .before .before .end-of .ensures in
     let w : first + sizes (grove L first n) ≡ size (treeOf L) = ap (λ (x : ℕ). x + sizes (grove L x n)) g ∙ ap (λ (x : ℕ). 1 + size (treeAt L 1) + sizes (grove L (1 + size (treeAt L 1)) x)) (sym i) ∙ sym (called-size T (R .inside) (s .pre .1)) in
-    let old : c .wide .result ≡ size (treeOf L) = c .wide .ensures ∙ c .before .before .fill-bounds .ensures n (omega arith) ∙ w in
+    let old : c .wide .result ≡ size (treeOf L) = c .wide .ensures ∙ c .before .before .fill-far .ensures n (omega arith) ∙ w in
     record { fits = omega (arith, old, R .inside, R .few) })
     -- slice-aggregate-make-zip
     (λ c.
@@ -78,7 +78,7 @@ zip-once-spec =
     let first = c .before .before .before .before .before .end-of .result in
     let g : first ≡ 1 + size (treeAt L 1) = c .before .before .before .before .before .end-of .ensures in
     let w : first + sizes (grove L first n) ≡ size (treeOf L) = ap (λ (x : ℕ). x + sizes (grove L x n)) g ∙ ap (λ (x : ℕ). 1 + size (treeAt L 1) + sizes (grove L (1 + size (treeAt L 1)) x)) (sym i) ∙ sym (called-size T (R .inside) (s .pre .1)) in
-    let old : c .before .wide .result ≡ size (treeOf L) = c .before .wide .ensures ∙ c .before .before .before .fill-bounds .ensures n (omega arith) ∙ w in
+    let old : c .before .wide .result ≡ size (treeOf L) = c .before .wide .ensures ∙ c .before .before .before .fill-far .ensures n (omega arith) ∙ w in
     sym (length-take-le (8 * c .before .wide .result) (s .args .rows .now) (omega (arith, old, R .inside, row-table-length (s .args .rows .now)))))
     (λ c. search needs)
     -- make-zip-requires
@@ -92,8 +92,8 @@ zip-once-spec =
     let first = c .before .before .before .before .before .before .before .end-of .result in
     let g : first ≡ 1 + size (treeAt L 1) = c .before .before .before .before .before .before .before .end-of .ensures in
     let w : first + sizes (grove L first n) ≡ size (treeOf L) = ap (λ (x : ℕ). x + sizes (grove L x n)) g ∙ ap (λ (x : ℕ). 1 + size (treeAt L 1) + sizes (grove L (1 + size (treeAt L 1)) x)) (sym i) ∙ sym (called-size T (R .inside) (s .pre .1)) in
-    let old : c .before .before .before .wide .result ≡ size (treeOf L) = c .before .before .before .wide .ensures ∙ c .before .before .before .before .before .fill-bounds .ensures n (omega arith) ∙ w in
-    let f = c .before .before .before .before .before .fill-bounds in
+    let old : c .before .before .before .wide .result ≡ size (treeOf L) = c .before .before .before .wide .ensures ∙ c .before .before .before .before .before .fill-far .ensures n (omega arith) ∙ w in
+    let f = c .before .before .before .before .before .fill-far in
     let z = cut-zip (s .args .rows .now) R (c .before .before .before .wide .result) _ old refl (s .pre .1) (s .pre .2) first n g (sym i) (omega (arith, c .before .before .before .before .before .before .before .before .if1 .left)) _ (f .kept .1 .1 .1 .0) (f .ensures) in
     (z .0, z .1, z .2, s .pre .3))
     (λ c. search needs)
@@ -108,5 +108,5 @@ zip-once-spec =
     let first = c .before .before .before .before .before .before .before .before .before .before .end-of .result in
     let g : first ≡ 1 + size (treeAt L 1) = c .before .before .before .before .before .before .before .before .before .before .end-of .ensures in
     let w : first + sizes (grove L first n) ≡ size (treeOf L) = ap (λ (x : ℕ). x + sizes (grove L x n)) g ∙ ap (λ (x : ℕ). 1 + size (treeAt L 1) + sizes (grove L (1 + size (treeAt L 1)) x)) (sym i) ∙ sym (called-size T (R .inside) (s .pre .1)) in
-    let old : c .before .before .before .before .before .before .wide .result ≡ size (treeOf L) = c .before .before .before .before .before .before .wide .ensures ∙ c .before .before .before .before .before .before .before .before .fill-bounds .ensures n (omega arith) ∙ w in
+    let old : c .before .before .before .before .before .before .wide .result ≡ size (treeOf L) = c .before .before .before .before .before .before .wide .ensures ∙ c .before .before .before .before .before .before .before .before .fill-far .ensures n (omega arith) ∙ w in
     cut-made (s .args .rows .now) R (c .before .before .before .before .before .before .wide .result) _ old refl (formOf (typeTable (s .args .types .now))) _ _ (c .before .before .make-zip .ensures)))

@@ -35,7 +35,7 @@ lists-from-spec =
     let L = map rowOf (rowTable (c .before .before .before .before .args .rows .now)) in
     let w = c .before .loop in
     omega (arith, w .inv .1, listed-size L (w .h) (w .at) (w .k) (w .inv .0), size-some (treeAt L (w .at))))
-    -- end-of-requires
+    -- far-end-requires
     (λ c κs.
     let s = c .before .before .before .before .before .before in
     let L = map rowOf (rowTable (s .args .rows .now)) in
@@ -51,7 +51,7 @@ lists-from-spec =
     let L = map rowOf (rowTable (s .args .rows .now)) in
     let w = c .before .before .before .before .loop in
     let more = c .before .before .before .loop-test .taken in
-    let e = c .end-of .ensures in (
+    let e = c .far-end .ensures in (
       omega (arith, more),
       omega (arith, w .inv .1, listed-size L (w .h) (w .at) (w .k) (w .inv .0), ap (λ (x : ℕ). x + sizes (grove L x (w .k - 1))) e),
       sym (listed-next L (w .h) (w .at) (w .k) (w .inv .0) _ _ e (c .before .before .ready-at .ensures) (c .before .if2 .taken)) ∙ w .inv .2,
