@@ -89,7 +89,7 @@ fn tie_once(types: &[u8], rows: &[u8], to: &mut [u8]) -> Pass
     }
 }
 
-// Of a zip whose masked arguments are lists: nil, or a cons. Not among the rules of `make`: the search passes a zip's arguments before its rule is tried.
+// Of a zip whose masked arguments are lists: nil, or a cons.
 pub fn zip_once(types: &[u8], rows: &[u8], to: &mut [u8]) -> Pass
     requires { ⌜ Front (now rows) × (kindNo (rowNo (rowTable (now rows)) 0) ≡ 8) × (kindNo (rowNo (rowTable (now rows)) 1) ≡ 15) × (length (now to) ≤ 32768) ⌝ }
     ensures { λ x. ⌜ MadeAtOnce (formOf (typeTable (now (types .entry)))) (rowTable (now (rows .entry))) (rowTable (now (to .exit))) x ⌝ }
@@ -140,8 +140,12 @@ pub fn make(types: &[u8], rows: &[u8], to: &mut [u8]) -> Pass
         return let_once(types, rows, to);
     }
     if k == 8 {
-        if places::kind_of(rows, 1) == 6 {
+        let c = places::kind_of(rows, 1);
+        if c == 6 {
             return call_once(types, rows, to);
+        }
+        if c == 15 {
+            return zip_once(types, rows, to);
         }
         return Pass::Unknown;
     }
@@ -160,7 +164,7 @@ pub fn make(types: &[u8], rows: &[u8], to: &mut [u8]) -> Pass
     Pass::Unknown
 }
 
-// Whether the first row has one of these rules.
+// Whether the first row has one of these rules, a zip's not among them.
 pub fn goes(types: &[u8], rows: &[u8]) -> bool
     requires { ⌜ Front (now rows) ⌝ }
     ensures { λ b. ⌜ (b ≡ true → Goes (formOf (typeTable (now (types .entry)))) (rowTable (now (rows .entry)))) ⌝ }

@@ -31,9 +31,12 @@ make-spec =
     (λ c κs. search needs)
     (λ c. search needs)
     (λ c. search needs)
-    -- returns-3
+    (λ c κs. search needs)
+    (λ c. search needs)
+    (λ c. search needs)
+    -- returns-4
     (λ c.
-    let s = c .before .before .before .before .before .before .before .before in
+    let s = c .before .before .before .before .before .before .before .before .before in
     let T = rowTable (s .args .rows .now) in
     let R = s .pre .0 in
     unknown-once (formOf (typeTable (s .args .types .now))) T _)
@@ -42,16 +45,16 @@ make-spec =
     let s = c .before .before .before .before .before .before .before in
     let T = rowTable (s .args .rows .now) in
     let R = s .pre .0 in
-    if-two T (R .exact) (R .inside) (sym (c .before .before .before .kind-of .ensures) ∙ c .if4 .taken))
+    if-two T (R .exact) (R .inside) (sym (c .before .before .before .kind-of .ensures) ∙ c .if5 .taken))
     (λ c κs. search needs)
     (λ c. search needs)
-    -- returns-4
+    -- returns-5
     (λ c.
     let s = c .before .before .before .before .before .before .before .before .before .before .before .before .before in
     let T = rowTable (s .args .rows .now) in
     let R = s .pre .0 in
     c .before .before .if-once .ensures (formOf (typeTable (s .args .types .now))))
-    -- returns-5
+    -- returns-6
     (λ c.
     let s = c .before .before .before .before .before .before .before .before .before in
     let T = rowTable (s .args .rows .now) in
@@ -63,16 +66,16 @@ make-spec =
     let s = c .before .before .before .before .before .before .before .before .before .before .before in
     let T = rowTable (s .args .rows .now) in
     let R = s .pre .0 in
-    (R, c .before .before .ties .ensures (c .before .if7 .taken), s .pre .1))
+    (R, c .before .before .ties .ensures (c .before .if8 .taken), s .pre .1))
     (λ c. search needs)
     (λ c. search needs)
-    -- returns-7
+    -- returns-8
     (λ c.
     let s = c .before .before .before .before .before .before .before .before .before .before in
     let T = rowTable (s .args .rows .now) in
     let R = s .pre .0 in
     unknown-once (formOf (typeTable (s .args .types .now))) T _)
-    -- returns-8
+    -- returns-9
     (λ c.
     let s = c .before .before .before .before .before .before .before .before in
     let T = rowTable (s .args .rows .now) in
