@@ -236,6 +236,9 @@ fn try_here(kept: &[u8], work: &[u8], s: Stand) -> Tried
     if reduce::once::goes(&kept[layout::RECORD_HEAD..e], &work[layout::TERM_ROW * r..]) {
         return Tried::Uncounted;
     }
+    if reduce::once::calls_zip(&work[layout::TERM_ROW * r..]) {
+        return Tried::Uncounted;
+    }
     try_whole(kept, work, s)
 }
 

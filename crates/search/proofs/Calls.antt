@@ -211,4 +211,4 @@ module _ (left left1 right frames frames1 : List ℕ) (s s1 : Stand) (room : Roo
         let r2 : s2 .r ≡ s .r + 2 = omega (arith, on-r, stood-r) in
         let r3 : 8 * s2 .r + 8 ≡ 8 * (s .r + 3) = omega arith in
         let waiting = call-waits (getD right (8 * s2 .r) 0) (nextKind right (s2 .r)) (ap (λ (i : ℕ). getD right (8 * i) 0) r2 ∙ b .inner) (next-some right (s2 .r) (omega (arith, r2, b .long)) ∙ ap (λ (i : ℕ). getD right i 0) r3 ∙ b .next) in
-        frame-sight form k left2 right frames2 s2 room2 (s .d) on-d true true Fs ts n (s .l) o at (b .arguments) (sym (second-looked left2 (s .l) right (s2 .r) n many kind-on function-on)) refl (sym waiting) x .0 refl
+        frame-sight form k left2 right frames2 s2 room2 (s .d) on-d true true Fs ts n (s .l) o at (b .arguments) (sym (second-looked left2 (s .l) right (s2 .r) n many kind-on function-on)) refl (record { waiting = λ y. waiting; zipping = λ y. absurd (false≢true (sym y)) }) x .0 refl

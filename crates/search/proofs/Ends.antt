@@ -10,7 +10,7 @@ use Rattle.meaning.specs.Bytes.{_∧ᵇ_, reads}
 use Rattle.meaning.specs.Types.{Form, member}
 use Rattle.meaning.specs.Terms.{Head, arity, code, Tree, Forest, node, Row, raw, flat, top}
 use Rattle.meaning.specs.Steps.{value, valueKinds, madeOfValues, Call, stay, go, contract, looks, step}
-use Rattle.search.specs.Frames.{waits, zips, spelled, Frame, below, close, around, rowOfFrame, passedRows, Open, Passed}
+use Rattle.search.specs.Frames.{Rests, zips, spelled, Frame, below, close, around, rowOfFrame, passedRows, Open, Passed}
 use Rattle.search.specs.Kept.{table, toCome, Held, Passes}
 use Rattle.search.specs.Search.{owing, Searching, Reached, Room, Resting}
 use Rattle.search.specs.declared.Stand.{Stand}
@@ -57,12 +57,12 @@ module _ (form : ℕ → Form) (k : ℕ) (left right frames : List ℕ) (s : Sta
   all-rows Fs ts x = cc (x .kept .rows, x .coming) ∙ sym (map-append raw (passedRows Fs) (spelled ts)) ∙ ap (map raw) (whole-rows form k frames (s .d) Fs ts ts (x .kept .held) (x .count) (x .passed))
 
   -- A ROW WHOSE OWN RULE IS TRIED: if it goes, so does the whole
-  pub here-goes : (Fs : List Frame) (h : Head) (u : ℕ) (f : Forest (arity h)) (ts : List Tree) (c : Option Call) (t : Tree) → At Fs (node h u f ∷ ts) → Open Fs (node h u f ∷ ts) → waits h f ≡ false
+  pub here-goes : (Fs : List Frame) (h : Head) (u : ℕ) (f : Forest (arity h)) (ts : List Tree) (c : Option Call) (t : Tree) → At Fs (node h u f ∷ ts) → Open Fs (node h u f ∷ ts) → Rests h f
       → contract form k h u f ≡ go c t → step form k (top (around Fs (node h u f ∷ ts))) ≡ go c (top (around Fs (t ∷ ts)))
   here-goes Fs h u f ts c t x o w g = found form k Fs (node h u f) t ts c o (x .passed) (resting-row form k h u f w ∙ g)
 
   -- at the root, if it stays, so does the whole
-  pub root-stays : (h : Head) (u : ℕ) (f : Forest (arity h)) (ts : List Tree) → waits h f ≡ false → contract form k h u f ≡ stay
+  pub root-stays : (h : Head) (u : ℕ) (f : Forest (arity h)) (ts : List Tree) → Rests h f → contract form k h u f ≡ stay
       → (step form k (top (around [] (node h u f ∷ ts))) ≡ stay) × (value (top (around [] (node h u f ∷ ts))) ≡ member (code h) valueKinds)
   unfolding around top
   root-stays h u f ts w g = (resting-row form k h u f w ∙ g, value-resting h u f w)

@@ -15,7 +15,7 @@ use lib.Dec.{eqb}
 use borrow.Author.Tests.{eqb-true}
 use Rattle.meaning.specs.Terms.{str, file, truth, Head, lit, var, lambda, foreign, apply, future, ite, fix, nil, cons, isnil, zip, tuple, project, lproject, bind, arity, code, nOf, wordOf, Tree, Forest, node, end, more, headOf, is, flats, kids, top}
 use Rattle.meaning.specs.Steps.{value, values, valueKinds, madeOfValues, Call, Out, stay, go, ready, sendStep, zipStep, applyStep, contract, Places, everywhere, behind, unready, applyLooks, isList, anyNil, zipCons, looks, Outs, stays, goes, orElse, wrap, tailGoes, headGoes, visit, step, steps}
-use Rattle.search.specs.Frames.{waits, zips, Frame, below, close, around, entered, passedBy, calm, Still, Stands, Looked, Open, Passed}
+use Rattle.search.specs.Frames.{waits, zips, zipsLists, Rests, Frame, below, close, around, entered, passedBy, calm, Still, Stands, Looked, Open, Passed}
 use Rattle.search.proofs.OneRow.{not-true, waiting-row, waits-first, zips-first, looks-heads, heads-kids, first-kids, first-before, looks-before}
 
 -- Trees in a list ------------------------------------------------------------------------------------------------
@@ -209,27 +209,57 @@ module _ (form : ℕ → Form) (k : ℕ) where
 -- Values ---------------------------------------------------------------------------------------------------------
 
 -- a row that does not wait is a value by its kind
-pub value-resting : (h : Head) (u : ℕ) (f : Forest (arity h)) → waits h f ≡ false → value (node h u f) ≡ member (code h) valueKinds
+value-at-once : (h : Head) (u : ℕ) (f : Forest (arity h)) → waits h f ≡ false → value (node h u f) ≡ member (code h) valueKinds
 unfolding value waits member code _∧ᵇ_
-value-resting (lit (str w)) u f e = refl
-value-resting (lit (file w)) u f e = refl
-value-resting (lit (truth true)) u f e = refl
-value-resting (lit (truth false)) u f e = refl
-value-resting (var x) u f e = refl
-value-resting lambda u f e = refl
-value-resting (foreign w) u f e = refl
-value-resting (apply n) u f e = refl
-value-resting (future j) u f e = refl
-value-resting ite u f e = refl
-value-resting fix u f e = refl
-value-resting nil u f e = refl
-value-resting cons u f e = absurd (false≢true (sym e))
-value-resting isnil u f e = refl
-value-resting (zip m) u f e = refl
-value-resting (tuple n) u f e = absurd (false≢true (sym e))
-value-resting (project i) u f e = refl
-value-resting (lproject i) u f e = refl
-value-resting (bind x) u f e = refl
+value-at-once (lit (str w)) u f e = refl
+value-at-once (lit (file w)) u f e = refl
+value-at-once (lit (truth true)) u f e = refl
+value-at-once (lit (truth false)) u f e = refl
+value-at-once (var x) u f e = refl
+value-at-once lambda u f e = refl
+value-at-once (foreign w) u f e = refl
+value-at-once (apply n) u f e = refl
+value-at-once (future j) u f e = refl
+value-at-once ite u f e = refl
+value-at-once fix u f e = refl
+value-at-once nil u f e = refl
+value-at-once cons u f e = absurd (false≢true (sym e))
+value-at-once isnil u f e = refl
+value-at-once (zip m) u f e = refl
+value-at-once (tuple n) u f e = absurd (false≢true (sym e))
+value-at-once (project i) u f e = refl
+value-at-once (lproject i) u f e = refl
+value-at-once (bind x) u f e = refl
+
+-- so is a zip's
+value-zip : (h : Head) (u : ℕ) (f : Forest (arity h)) → zipsLists h f ≡ true → value (node h u f) ≡ member (code h) valueKinds
+unfolding value zipsLists zips member code _∧ᵇ_
+value-zip (apply n) u f e = refl
+value-zip (lit (str w)) u f e = absurd (false≢true e)
+value-zip (lit (file w)) u f e = absurd (false≢true e)
+value-zip (lit (truth true)) u f e = absurd (false≢true e)
+value-zip (lit (truth false)) u f e = absurd (false≢true e)
+value-zip (var x) u f e = absurd (false≢true e)
+value-zip lambda u f e = absurd (false≢true e)
+value-zip (foreign w) u f e = absurd (false≢true e)
+value-zip (future k) u f e = absurd (false≢true e)
+value-zip ite u f e = absurd (false≢true e)
+value-zip fix u f e = absurd (false≢true e)
+value-zip nil u f e = absurd (false≢true e)
+value-zip cons u f e = absurd (false≢true e)
+value-zip isnil u f e = absurd (false≢true e)
+value-zip (zip m) u f e = absurd (false≢true e)
+value-zip (tuple n) u f e = absurd (false≢true e)
+value-zip (project j) u f e = absurd (false≢true e)
+value-zip (lproject j) u f e = absurd (false≢true e)
+value-zip (bind x) u f e = absurd (false≢true e)
+
+pub value-resting : (h : Head) (u : ℕ) (f : Forest (arity h)) → Rests h f → value (node h u f) ≡ member (code h) valueKinds
+value-resting h u f r = by-wait (waits h f) refl
+  where
+    by-wait : (b : Bool) → waits h f ≡ b → value (node h u f) ≡ member (code h) valueKinds
+    by-wait true e = value-zip h u f (r e)
+    by-wait false e = value-at-once h u f e
 
 -- a row that waits is one if it is made of values and all of these were passed
 waiting-value : (h : Head) (u : ℕ) (B ts : List Tree) → length B ≡ arity h → waits h (kids (arity h) (B ++ ts)) ≡ true

@@ -6,6 +6,7 @@ use mathlib.Core.List.{List, [], _∷_, _++_}
 use mathlib.Core.Option.{none}
 use native.Mathlib.Omega.{arith}
 use lib.Dec.{eqb}
+use borrow.Author.Tests.{eqb-true}
 use lib.ListN.{length}
 use Rattle.meaning.specs.Bytes.{_∧ᵇ_}
 use Rattle.meaning.specs.Types.{Form, low, rest}
@@ -14,7 +15,7 @@ use Rattle.meaning.specs.Steps.{_∨ᵇ_, value, values, Out, stay, go, ifStep,
 use Rattle.meaning.specs.Typing.{firstIs}
 use Rattle.meaning.proofs.Trees.Tests.{left, right}
 use Rattle.meaning.proofs.Steps.Progress.{value-stays}
-use Rattle.search.specs.Frames.{waits, zips}
+use Rattle.search.specs.Frames.{waits, zips, listsBelow, zipsLists, Rests}
 
 or-stay : (o : Out) → orElse o stay ≡ o
 unfolding orElse
@@ -84,6 +85,40 @@ looks-none (project j) (more c f) i e = unless-none _ i (not-false _ e)
 looks-none (lproject j) (more c f) i e = unless-none _ i (not-false _ e)
 looks-none (bind x) f i e = refl
 
+-- nor does a zip whose lists are there
+zip-none : {n : ℕ} (c : Tree) (args : Forest n) (i : ℕ) → is 15 c ≡ true → ready (nOf (headOf c)) args ≡ true → applyLooks c args i ≡ false
+unfolding applyLooks is
+zip-none c args i e v =
+    let k : code (headOf c) ≡ 15 = eqb-true (code (headOf c)) 15 e in
+    rw k (behind-none (unready (nOf (headOf c)) args) i (λ j. unready-none (nOf (headOf c)) args j v))
+
+zips-none : (h : Head) (f : Forest (arity h)) (i : ℕ) → zipsLists h f ≡ true → looks h f i ≡ false
+unfolding zipsLists zips listsBelow firstIs looks nowhere code _∧ᵇ_
+zips-none (apply n) (more c args) i e = zip-none c args i (left (is 15 c) (ready (nOf (headOf c)) args) e) (right (is 15 c) (ready (nOf (headOf c)) args) e)
+zips-none (lit l) f i e = refl
+zips-none (var x) f i e = refl
+zips-none lambda f i e = refl
+zips-none (foreign w) f i e = refl
+zips-none (future k) f i e = refl
+zips-none ite f i e = absurd (false≢true e)
+zips-none fix f i e = refl
+zips-none nil f i e = refl
+zips-none cons f i e = absurd (false≢true e)
+zips-none isnil f i e = absurd (false≢true e)
+zips-none (zip m) f i e = refl
+zips-none (tuple n) f i e = absurd (false≢true e)
+zips-none (project j) f i e = absurd (false≢true e)
+zips-none (lproject j) f i e = absurd (false≢true e)
+zips-none (bind x) f i e = refl
+
+-- a row whose own rule is tried where it stands looks nowhere
+rests-none : (h : Head) (f : Forest (arity h)) (i : ℕ) → Rests h f → looks h f i ≡ false
+rests-none h f i r = by-wait (waits h f) refl
+  where
+    by-wait : (b : Bool) → waits h f ≡ b → looks h f i ≡ false
+    by-wait true e = zips-none h f i (r e)
+    by-wait false e = looks-none h f i e
+
 module _ (form : ℕ → Form) (k : ℕ) where
   none-step : {n : ℕ} (a : Places) (f : Forest n) → ((i : ℕ) → a i ≡ false) → steps form k a f ≡ stays
   unfolding step
@@ -95,10 +130,10 @@ module _ (form : ℕ → Form) (k : ℕ) where
   values-stay a end e = refl
   values-stay a (more t f) e = unvisited (a 0) _ t f _ (λ q. value-stays form k t (left _ _ e)) (values-stay (λ i. a (suc i)) f (right _ _ e))
 
-  -- THE TWO KINDS OF ROW. One that does not wait does what its own rule does
-  pub resting-row : (h : Head) (u : ℕ) (f : Forest (arity h)) → waits h f ≡ false → step form k (node h u f) ≡ contract form k h u f
+  -- THE TWO KINDS OF ROW. One whose own rule is tried where it stands does what that does
+  pub resting-row : (h : Head) (u : ℕ) (f : Forest (arity h)) → Rests h f → step form k (node h u f) ≡ contract form k h u f
   unfolding step wrap
-  resting-row h u f e = ap (λ (r : Outs (arity h)). orElse (contract form k h u f) (wrap h u r)) (none-step (looks h f) f (λ i. looks-none h f i e)) ∙ or-stay _
+  resting-row h u f e = ap (λ (r : Outs (arity h)). orElse (contract form k h u f) (wrap h u r)) (none-step (looks h f) f (λ i. rests-none h f i e)) ∙ or-stay _
 
   ready-last : (v : Bool) (o r : Out) → (v ≡ true → r ≡ stay) → orElse (cond v o stay) r ≡ orElse r (cond v o stay)
   unfolding orElse

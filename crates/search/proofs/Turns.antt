@@ -11,10 +11,9 @@ use Rattle.meaning.specs.Terms.{arity, Tree, Forest, node, end, more, Row, raw,
 use Rattle.meaning.specs.Steps.{stay, looks, step}
 use Rattle.meaning.proofs.Trees.Parse.{front, length-flat, trees-flat}
 use Rattle.meaning.proofs.Bytes.RowTables.{row-raw, rows-raw}
-use Rattle.search.specs.Frames.{spelled, Frame, below, close, around, rowOfFrame, passedRows, entered, passedBy, Open, Passed}
-use Rattle.search.specs.Kinds.{waitsBy}
+use Rattle.search.specs.Frames.{spelled, treeZipsLists, Frame, below, close, around, rowOfFrame, passedRows, entered, passedBy, Open, Passed}
 use Rattle.search.specs.Kept.{table, rowCount, toCome, copied, owedIn, rowIn, enteredNumber, treeHere, moved, Held, Enters, Passes}
-use Rattle.search.specs.Search.{owing, Searching, Seen, done, skip, enter, here, nextKind, lookedBy, Room, Reached}
+use Rattle.search.specs.Search.{owing, Searching, Seen, done, skip, enter, here, Into, lookedBy, Room, Reached}
 use Rattle.search.specs.declared.Stand.{Stand}
 use Rattle.search.specs.declared.Sight.the-variants.{Done, Skip, Enter, Here}
 use Rattle.terms.proofs.Scan.{size-some}
@@ -38,25 +37,31 @@ pub some-row : (right : List ℕ) (r : ℕ) (t : Tree) (ts : List Tree) → toCo
 unfolding spelled
 some-row right r t ts q = omega (arith, coming-long right r (flat t ++ spelled ts) q, length-append (flat t) (spelled ts), length-flat t)
 
+-- the tree at the search
+pub tree-here : (right : List ℕ) (r : ℕ) (t : Tree) (ts : List Tree) → toCome right r ≡ map raw (spelled (t ∷ ts)) → treeHere right r ≡ t
+unfolding treeHere treeOf spelled top
+tree-here right r t ts q = ap (λ (x : List (List ℕ)). top (trees (map rowOf x))) q ∙ rw (rows-raw (flat t ++ spelled ts), trees-flat t (spelled ts)) refl
+
 module _ (form : ℕ → Form) (k : ℕ) (left right frames : List ℕ) (s : Stand) (room : Room left right frames s) where
   abbrev At : List Frame → List Tree → Type 0
   At Fs ts = Searching form k left right frames s Fs ts
 
   -- the row at the search
-  sees-row : (b : Bool) (Fs : List Frame) (t : Tree) (ts : List Tree) → toCome right (s .r) ≡ map raw (spelled (t ∷ ts)) → b ≡ waitsBy (getD right (8 * s .r) 0) (nextKind right (s .r)) → Open Fs (t ∷ ts)
+  sees-row : (b : Bool) (Fs : List Frame) (t : Tree) (ts : List Tree) → toCome right (s .r) ≡ map raw (spelled (t ∷ ts)) → Into b right (s .r) → Open Fs (t ∷ ts)
       → (b ≡ true → Seen Enter Fs (t ∷ ts)) × (b ≡ false → Seen Here Fs (t ∷ ts))
+  unfolding treeZipsLists
   sees-row b Fs (node h u f) ts q e o =
-      let w = e ∙ waits-seen right (s .r) h u f ts (room .ends) q in
-      ((λ y. enter o (sym w ∙ y)), (λ y. here o (sym w ∙ y)))
+      let w = waits-seen right (s .r) h u f ts (room .ends) q in
+      ((λ y. enter o (sym w ∙ e .waiting y)), (λ y. here o (λ z. ap treeZipsLists (sym (tree-here right (s .r) (node h u f) ts q)) ∙ e .zipping y (w ∙ z))))
 
   -- at the root
-  pub root-row : (Fs : List Frame) (ts : List Tree) → s .d ≡ 0 → At Fs ts → s .r < rowCount right
+  pub root-row : (Fs : List Frame) (ts : List Tree) → s .d ≡ 0 → At Fs ts → (s .r < rowCount right) × (size (treeHere right (s .r)) ≤ rowCount right - s .r)
   unfolding Held owing
   root-row [] [] z x = absurd (omega (arith, x .count))
-  root-row [] (t ∷ ts) z x = omega (arith, size-some t, some-row right (s .r) t ts (x .coming))
+  root-row [] (t ∷ ts) z x = let y = some-row right (s .r) t ts (x .coming) in (omega (arith, size-some t, y), rw (tree-here right (s .r) t ts (x .coming)) y)
   root-row (F ∷ Fs) ts z x = absurd (rw z at (x .kept .held))
 
-  pub root-sight : (b : Bool) (Fs : List Frame) (ts : List Tree) → s .d ≡ 0 → b ≡ waitsBy (getD right (8 * s .r) 0) (nextKind right (s .r)) → At Fs ts
+  pub root-sight : (b : Bool) (Fs : List Frame) (ts : List Tree) → s .d ≡ 0 → Into b right (s .r) → At Fs ts
       → (b ≡ true → Seen Enter Fs ts) × (b ≡ false → Seen Here Fs ts)
   unfolding Held owing Open
   root-sight b [] [] z q x = absurd (omega (arith, x .count))
@@ -73,6 +78,7 @@ module _ (form : ℕ → Form) (k : ℕ) (left right frames : List ℕ) (s : Sta
     -- the frame's numbers
     pub record FrameRow (o at : ℕ) : Type 0 where
       pub row : s .r < rowCount right
+      pub fits : size (treeHere right (s .r)) ≤ rowCount right - s .r
       pub below : at < s .l
       pub trees : o ≤ arity (rowOf (read termRow (drop (8 * at) left)) .head)
       pub next : (arity (rowOf (read termRow (drop (8 * at) left)) .head) ≡ o → ⊥) → at + 2 ≤ s .l
@@ -89,6 +95,7 @@ module _ (form : ℕ → Form) (k : ℕ) (left right frames : List ℕ) (s : Sta
         let a = ap (λ (y : Row). arity (y .head)) ra in
         record {
           row = omega (arith, size-some t, some-row right (s .r) t ts (x .coming));
+          fits = rw (tree-here right (s .r) t ts (x .coming)) (some-row right (s .r) t ts (x .coming));
           below = omega (arith, h .0 .at);
           trees = omega (arith, h .0 .owes, a);
           next = λ y. omega (arith, h .0 .at, some-before (F .before) (λ w. y (omega (arith, a, h .0 .owes))));
@@ -102,7 +109,7 @@ module _ (form : ℕ → Form) (k : ℕ) (left right frames : List ℕ) (s : Sta
         (omega (arith, h .0 .owes), looks-seen left (s .l) at right (s .r) (rowCount right - s .r) o (F .head) (F .type) (passedRows Fs) t ts (ea ∙ h .0 .at) (x .coming) (F .before) (x .kept .rows) (x .passed .0 .waiting) z (omega (arith, h .0 .owes)))
 
     pub frame-sight : (b c : Bool) (Fs : List Frame) (ts : List Tree) (o at : ℕ) → o ≡ owedIn (getD frames i 0) → at ≡ rowIn (getD frames i 0) → 0 < o → c ≡ lookedBy left at right (s .r) o → c ≡ true
-        → b ≡ waitsBy (getD right (8 * s .r) 0) (nextKind right (s .r)) → At Fs ts → (b ≡ true → Seen Enter Fs ts) × (b ≡ false → Seen Here Fs ts)
+        → Into b right (s .r) → At Fs ts → (b ≡ true → Seen Enter Fs ts) × (b ≡ false → Seen Here Fs ts)
     unfolding Held owing Open
     frame-sight b c [] ts o at eo ea z g y q x = absurd (rw ds at (x .kept .held))
     frame-sight b c (F ∷ Fs) [] o at eo ea z g y q x = let h = rw ds at (x .kept .held) in absurd (omega (arith, h .0 .owes, x .count))
@@ -117,11 +124,6 @@ module _ (form : ℕ → Form) (k : ℕ) (left right frames : List ℕ) (s : Sta
     skip-sight c (F ∷ Fs) (t ∷ ts) o at eo ea z g y x = let w = frame-looks F Fs t ts o at eo ea z x in skip (w .0) (sym (w .1) ∙ sym g ∙ y)
 
 -- Going on -------------------------------------------------------------------------------------------------------
-
--- the tree at the search
-pub tree-here : (right : List ℕ) (r : ℕ) (t : Tree) (ts : List Tree) → toCome right r ≡ map raw (spelled (t ∷ ts)) → treeHere right r ≡ t
-unfolding treeHere treeOf spelled top
-tree-here right r t ts q = ap (λ (x : List (List ℕ)). top (trees (map rowOf x))) q ∙ rw (rows-raw (flat t ++ spelled ts), trees-flat t (spelled ts)) refl
 
 -- behind some rows, the others
 pub rest-rows : (right : List ℕ) (r n : ℕ) (A B : List Row) → length A ≡ n → toCome right r ≡ map raw (A ++ B) → toCome right (r + n) ≡ map raw B

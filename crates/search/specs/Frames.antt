@@ -4,13 +4,13 @@ use Prim.Native.Nat.{ℕ, suc, _<_}
 use mathlib.Core.Path.{_≡_}
 use mathlib.Core.Bool.{Bool, true, false, cond, not}
 use mathlib.Core.List.{List, [], _∷_, _++_}
-use lib.Dec.{eqb}
 use lib.ListN.{length, drop}
 use Rattle.meaning.specs.Bytes.{_∧ᵇ_}
 use Rattle.meaning.specs.Types.{Form}
-use Rattle.meaning.specs.Terms.{Head, lit, var, lambda, foreign, apply, future, ite, fix, nil, cons, isnil, zip, tuple, project, lproject, bind, arity, code, Tree, Forest, node, more, is, Row, flat, kids}
-use Rattle.meaning.specs.Typing.{firstIs}
+use Rattle.meaning.specs.Terms.{Head, lit, var, lambda, foreign, apply, future, ite, fix, nil, cons, isnil, zip, tuple, project, lproject, bind, arity, Tree, Forest, node, more, is, Row, flat, kids}
 use Rattle.meaning.specs.Steps.{_∨ᵇ_, value, stay, isList, Places, looks, step}
+-- the rows whose rule wants lists, and so nothing that is looked at; and those that have them
+unfoldable pub use Rattle.reduce.specs.Lists.{zips, listsBelow, zipsLists, treeZipsLists}
 
 -- Rows over trees ------------------------------------------------------------------------------------------------
 
@@ -26,7 +26,7 @@ spelled (t ∷ ts) = flat t ++ spelled ts
 -- Rows that wait -------------------------------------------------------------------------------------------------
 
 -- whether what a row does hangs on the trees below it beyond the head of the first: it is looked into before its own rule is tried. A call
--- that is sent needs values there and a zip needs lists: their rule comes last, when all that is looked at was passed
+-- that is sent needs values there and a zip needs lists: their rule comes last, when all that is looked at was passed, but a zip's at once where its lists are there
 unfoldable pub waits : (h : Head) → Forest (arity h) → Bool
 waits (lit l) f = false
 waits (var x) f = false
@@ -45,9 +45,9 @@ waits (project i) (more c f) = not (is 16 c)
 waits (lproject i) (more c f) = not (isList c)
 waits (bind x) f = false
 
--- the rows whose rule wants lists, and so nothing that is looked at
-unfoldable pub zips : (h : Head) → Forest (arity h) → Bool
-zips h f = eqb (code h) 8 ∧ᵇ firstIs 15 f
+-- a row's own rule is tried where it stands: it does not wait, or it is a zip's whose lists are there
+abbrev pub Rests : (h : Head) → Forest (arity h) → Type 0
+Rests h f = waits h f ≡ true → zipsLists h f ≡ true
 
 -- Frames ---------------------------------------------------------------------------------------------------------
 

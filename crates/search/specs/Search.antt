@@ -9,8 +9,8 @@ use Rattle.meaning.specs.Bytes.{read, termRow}
 use Rattle.meaning.specs.Types.{Form}
 use Rattle.meaning.specs.Terms.{arity, Head, Tree, Forest, node, raw, rowOf, size}
 use Rattle.meaning.specs.Steps.{value, stay, contract, looks}
-use Rattle.search.specs.Frames.{spelled, waits, Frame, below, around, Looked, Open, Passed}
-use Rattle.search.specs.Kinds.{looksBy}
+use Rattle.search.specs.Frames.{spelled, waits, Rests, treeZipsLists, Frame, below, around, Looked, Open, Passed}
+use Rattle.search.specs.Kinds.{waitsBy, looksBy}
 use Rattle.search.specs.Kept.{toCome, rowCount, kindAt, treeHere, Kept}
 use Rattle.search.specs.declared.Stand.{Stand}
 use Rattle.search.specs.declared.Sight.{Sight}
@@ -30,16 +30,21 @@ pub record Searching (form : ℕ → Form) (k : ℕ) (left right frames : List �
   pub count : length ts ≡ owing Fs
   pub passed : Passed form k Fs ts
 
--- what is in sight there: a frame whose trees are passed; a tree that is not looked at; a row that waits; a row that does not
+-- what is in sight there: a frame whose trees are passed; a tree that is not looked at; a row that waits; a row whose own rule is tried
 pub data Seen : Sight → List Frame → List Tree → Type 0 where
   done : {F : Frame} {Fs : List Frame} {ts : List Tree} → length (F .before) ≡ arity (F .head) → Seen Done (F ∷ Fs) ts
   skip : {F : Frame} {Fs : List Frame} {t : Tree} {ts : List Tree} → length (F .before) < arity (F .head) → looks (F .head) (below F (t ∷ ts)) (length (F .before)) ≡ false → Seen Skip (F ∷ Fs) (t ∷ ts)
   enter : {Fs : List Frame} {h : Head} {u : ℕ} {f : Forest (arity h)} {ts : List Tree} → Open Fs (node h u f ∷ ts) → waits h f ≡ true → Seen Enter Fs (node h u f ∷ ts)
-  here : {Fs : List Frame} {h : Head} {u : ℕ} {f : Forest (arity h)} {ts : List Tree} → Open Fs (node h u f ∷ ts) → waits h f ≡ false → Seen Here Fs (node h u f ∷ ts)
+  here : {Fs : List Frame} {h : Head} {u : ℕ} {f : Forest (arity h)} {ts : List Tree} → Open Fs (node h u f ∷ ts) → Rests h f → Seen Here Fs (node h u f ∷ ts)
 
 -- the kind of the row behind row r
 unfoldable pub nextKind : List ℕ → ℕ → ℕ
 nextKind right r = cond (ltb (r + 1) (rowCount right)) (getD right (8 * r + 8) 0) 0
+
+-- the row at row r waits, or its own rule is tried where it stands
+pub record Into (b : Bool) (right : List ℕ) (r : ℕ) : Type 0 where
+  pub waiting : b ≡ true → waitsBy (kindAt right r) (nextKind right r) ≡ true
+  pub zipping : b ≡ false → waitsBy (kindAt right r) (nextKind right r) ≡ true → treeZipsLists (treeHere right r) ≡ true
 
 -- whether the frame of row `at`, with o trees to come, looks at the tree at row r
 unfoldable pub lookedBy : List ℕ → ℕ → List ℕ → ℕ → ℕ → Bool
@@ -121,7 +126,7 @@ pub record Stops (left left′ right frames frames′ : List ℕ) (s s′ : Stan
 pub record Resting (form : ℕ → Form) (k : ℕ) (left right frames : List ℕ) (s : Stand) (F : Frame) (Fs : List Frame) (h : Head) (u : ℕ) (f : Forest (arity h)) (ts : List Tree) : Type 0 where
   pub search : Searching form k left right frames s (F ∷ Fs) (node h u f ∷ ts)
   pub looked : Looked F (node h u f ∷ ts)
-  pub rests : waits h f ≡ false
+  pub rests : Rests h f
   pub stays : contract form k h u f ≡ stay
 
 -- the search stands at the end of a frame inside another one, and its own rule stays

@@ -11,7 +11,7 @@ ghost use Rattle.meaning.specs.Terms.{size, arity, rowOf, treeAt};
 ghost use Rattle.meaning.specs.Steps.{_∨ᵇ_, valueKinds, madeOfValues};
 ghost use Rattle.search.specs.Kinds.{waitsBy, looksBy, partKinds, partsBelow};
 ghost use Rattle.search.specs.Kept.{rowCount, kindAt, rowIn, owedIn, flagIn, enteredNumber, passedNumber, copied, treeHere, firstKind, wants, wantsHere, fitsHere, valueEnd, fitsEnd, Enters, Passes, Leaves};
-ghost use Rattle.search.specs.Search.{nextKind, lookedBy, Room, Somewhere, Sees, Stops, Spans, SpansHere, Nested, Delves, Resumes};
+ghost use Rattle.search.specs.Search.{nextKind, lookedBy, Into, Room, Somewhere, Sees, Stops, Spans, SpansHere, Nested, Delves, Resumes};
 ghost use Rattle.search.specs.declared.Sight.the-variants.{Enter};
 
 // What a search sees where it stands.
@@ -228,6 +228,24 @@ fn waits_at(right: &[u8], r: usize) -> bool
     waits(k, 0)
 }
 
+// The longest table of rows.
+const LONGEST: usize = 32768;
+
+// The same, but of a zip whose lists are there: its own rule is tried at once, where the rows are few enough to be asked.
+fn goes_into(right: &[u8], r: usize) -> bool
+    requires { ⌜ (r < rowCount (now right)) × (rowCount (now right) ≤ 4096) × (size (treeHere (now right) r) ≤ rowCount (now right) - r) ⌝ }
+    ensures { λ b. ⌜ Into b (now (right .entry)) r ⌝ }
+{
+    if waits_at(right, r) {
+        let from = layout::TERM_ROW * r;
+        if LONGEST < right.len() - from {
+            return true;
+        }
+        return !reduce::zips::zips_lists(&right[from..]);
+    }
+    false
+}
+
 // Whether the frame whose row is row `at` of the rows passed, with o trees to come, looks at the tree at the search: by its place.
 fn looked_in(left: &[u8], at: usize, right: &[u8], r: usize, o: usize) -> bool
     requires { ⌜ (8 * at + 8 ≤ length (now left)) × (at ≤ 4096) × (8 * r + 8 ≤ length (now right)) × (o ≤ arity (rowOf (read termRow (drop (8 * at) (now left))) .head)) × ((arity (rowOf (read termRow (drop (8 * at) (now left))) .head) ≡ o → ⊥) → 8 * at + 16 ≤ length (now left)) ⌝ }
@@ -268,7 +286,7 @@ fn look_ahead(left: &[u8], right: &[u8], frames: &[u32], s: Stand) -> Sight
     let r = s.r;
     let d = s.d;
     if d == 0 {
-        if waits_at(right, r) {
+        if goes_into(right, r) {
             return Sight::Enter;
         }
         return Sight::Here;
@@ -279,7 +297,7 @@ fn look_ahead(left: &[u8], right: &[u8], frames: &[u32], s: Stand) -> Sight
         return Sight::Done;
     }
     if looked_at(left, row_in(x), right, r, o) {
-        if waits_at(right, r) {
+        if goes_into(right, r) {
             return Sight::Enter;
         }
         return Sight::Here;

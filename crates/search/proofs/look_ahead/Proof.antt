@@ -12,22 +12,23 @@ pub look-ahead-spec : {M : Type 1} → statement M
 look-ahead-spec =
     tie.close
     (tie.spec
-    -- waits-at-requires
+    -- goes-into-requires
     (λ c κs.
     let args = c .before .before .before .before .args in
     let pre = c .before .before .before .before .pre in
     let w = pre .1 in
-    (root-row (w .form) (w .number) (args .left .now) (args .right .now) (args .frames .now) (args .s) (pre .0) (w .framesAround) (w .trees) (c .if1 .taken) (w .search), pre .0 .few))
+    let y = root-row (w .form) (w .number) (args .left .now) (args .right .now) (args .frames .now) (args .s) (pre .0) (w .framesAround) (w .trees) (c .if1 .taken) (w .search) in
+    (y .0, pre .0 .few, y .1))
     -- returns
     (λ c.
     let args = c .before .before .before .before .before .before .args in
     let pre = c .before .before .before .before .before .before .pre in
-    λ form k Fs ts x. root-sight form k (args .left .now) (args .right .now) (args .frames .now) (args .s) (pre .0) (c .before .waits-at .result) Fs ts (c .before .before .if1 .taken) (c .before .waits-at .ensures) x .0 (c .if2 .taken))
+    λ form k Fs ts x. root-sight form k (args .left .now) (args .right .now) (args .frames .now) (args .s) (pre .0) (c .before .goes-into .result) Fs ts (c .before .before .if1 .taken) (c .before .goes-into .ensures) x .0 (c .if2 .taken))
     -- returns-2
     (λ c.
     let args = c .before .before .before .before .before .before .args in
     let pre = c .before .before .before .before .before .before .pre in
-    λ form k Fs ts x. root-sight form k (args .left .now) (args .right .now) (args .frames .now) (args .s) (pre .0) (c .before .waits-at .result) Fs ts (c .before .before .if1 .taken) (c .before .waits-at .ensures) x .1 (c .if2 .left))
+    λ form k Fs ts x. root-sight form k (args .left .now) (args .right .now) (args .frames .now) (args .s) (pre .0) (c .before .goes-into .result) Fs ts (c .before .before .if1 .taken) (c .before .goes-into .ensures) x .1 (c .if2 .left))
     (λ c. search needs)
     -- mul-x
     (λ c.
@@ -59,7 +60,7 @@ look-ahead-spec =
     let f = frame-row (w .form) (w .number) (args .left .now) (args .right .now) (args .frames .now) (args .s) (pre .0) (args .s .d - 1) ds (w .framesAround) (w .trees) (c .before .before .owed-in .result) (c .row-in .result) (c .before .before .owed-in .ensures) (c .row-in .ensures) some (w .search) in
     let room = pre .0 in
     (omega (arith, room .left-long, room .ends, f .below), omega (arith, room .rows, f .below), omega (arith, room .few, f .row), f .trees, λ y. omega (arith, room .left-long, room .ends, f .next y)))
-    -- waits-at-requires-2
+    -- goes-into-requires-2
     (λ c κs.
     let args = c .before .before .before .before .before .before .before .before .before .before .args in
     let pre = c .before .before .before .before .before .before .before .before .before .before .pre in
@@ -67,21 +68,21 @@ look-ahead-spec =
     let ds : args .s .d ≡ suc (args .s .d - 1) = omega arith in
     let some : 0 < c .before .before .before .before .owed-in .result = omega arith in
     let f = frame-row (w .form) (w .number) (args .left .now) (args .right .now) (args .frames .now) (args .s) (pre .0) (args .s .d - 1) ds (w .framesAround) (w .trees) (c .before .before .before .before .owed-in .result) (c .before .before .row-in .result) (c .before .before .before .before .owed-in .ensures) (c .before .before .row-in .ensures) some (w .search) in
-    (f .row, pre .0 .few))
+    (f .row, pre .0 .few, f .fits))
     -- returns-4
     (λ c.
     let args = c .before .before .before .before .before .before .before .before .before .before .before .before .args in
     let pre = c .before .before .before .before .before .before .before .before .before .before .before .before .pre in
     let ds : args .s .d ≡ suc (args .s .d - 1) = omega arith in
     let some : 0 < c .before .before .before .before .before .before .owed-in .result = omega arith in
-    λ form k Fs ts x. frame-sight form k (args .left .now) (args .right .now) (args .frames .now) (args .s) (pre .0) (args .s .d - 1) ds (c .before .waits-at2 .result) (c .before .before .before .looked-at .result) Fs ts (c .before .before .before .before .before .before .owed-in .result) (c .before .before .before .before .row-in .result) (c .before .before .before .before .before .before .owed-in .ensures) (c .before .before .before .before .row-in .ensures) some (c .before .before .before .looked-at .ensures) (c .before .before .if4 .taken) (c .before .waits-at2 .ensures) x .0 (c .if5 .taken))
+    λ form k Fs ts x. frame-sight form k (args .left .now) (args .right .now) (args .frames .now) (args .s) (pre .0) (args .s .d - 1) ds (c .before .goes-into2 .result) (c .before .before .before .looked-at .result) Fs ts (c .before .before .before .before .before .before .owed-in .result) (c .before .before .before .before .row-in .result) (c .before .before .before .before .before .before .owed-in .ensures) (c .before .before .before .before .row-in .ensures) some (c .before .before .before .looked-at .ensures) (c .before .before .if4 .taken) (c .before .goes-into2 .ensures) x .0 (c .if5 .taken))
     -- returns-5
     (λ c.
     let args = c .before .before .before .before .before .before .before .before .before .before .before .before .args in
     let pre = c .before .before .before .before .before .before .before .before .before .before .before .before .pre in
     let ds : args .s .d ≡ suc (args .s .d - 1) = omega arith in
     let some : 0 < c .before .before .before .before .before .before .owed-in .result = omega arith in
-    λ form k Fs ts x. frame-sight form k (args .left .now) (args .right .now) (args .frames .now) (args .s) (pre .0) (args .s .d - 1) ds (c .before .waits-at2 .result) (c .before .before .before .looked-at .result) Fs ts (c .before .before .before .before .before .before .owed-in .result) (c .before .before .before .before .row-in .result) (c .before .before .before .before .before .before .owed-in .ensures) (c .before .before .before .before .row-in .ensures) some (c .before .before .before .looked-at .ensures) (c .before .before .if4 .taken) (c .before .waits-at2 .ensures) x .1 (c .if5 .left))
+    λ form k Fs ts x. frame-sight form k (args .left .now) (args .right .now) (args .frames .now) (args .s) (pre .0) (args .s .d - 1) ds (c .before .goes-into2 .result) (c .before .before .before .looked-at .result) Fs ts (c .before .before .before .before .before .before .owed-in .result) (c .before .before .before .before .row-in .result) (c .before .before .before .before .before .before .owed-in .ensures) (c .before .before .before .before .row-in .ensures) some (c .before .before .before .looked-at .ensures) (c .before .before .if4 .taken) (c .before .goes-into2 .ensures) x .1 (c .if5 .left))
     -- returns-6
     (λ c.
     let args = c .before .before .before .before .before .before .before .before .before .before .args in
