@@ -276,6 +276,14 @@ module _ (m : Limits) (b : List ℕ) where
     unfolding restSound
     the-others e = passes _ _ s ∙ passes _ _ e
 
+  -- a typing that fails where the shape is whole
+  pub no-rows : (shapeSound (board m) b ≡ true → termSound (board m) b ≡ false) → restSound (board m) b ≡ false
+  no-rows h = go (shapeSound (board m) b) refl
+    where
+      go : (s : Bool) → shapeSound (board m) b ≡ s → restSound (board m) b ≡ false
+      go true e = no-term e (h e)
+      go false e = no-shape e
+
   pub no-calls : callsSound (board m) b ≡ false → othersSound (board m) b ≡ false
   unfolding othersSound
   no-calls e = fails _ _ e

@@ -148,24 +148,30 @@ fn shape_sound(kept: &[u8], m: Limits) -> bool
     }
 }
 
-// "and 9 test". A row that may fail by itself is asked first.
-fn term_sound(kept: &[u8], m: Limits, row: usize) -> bool
+// "and 9 test"
+fn term_sound(kept: &[u8], m: Limits) -> bool
     requires { ⌜ (Ready m (now kept)) × (shapeSound (board m) (now kept) ≡ true) ⌝ }
     ensures { λ b. ⌜ b ≡ termSound (board m) (now (kept .entry)) ⌝ }
 {
     let types_end = layout::RECORD_HEAD + layout::TYPE_ROW * head::type_count(kept) as usize;
     let at = layout::rows_at(m);
     let end = at + layout::TERM_ROW * head::row_count(kept) as usize;
-    let types = &kept[layout::RECORD_HEAD..types_end];
-    let rows = &kept[at..end];
-    if typing::leaf_fails(types, rows, row) {
-        return false;
-    }
-    let bad = typing::first_bad(types, rows);
+    let bad = typing::first_bad(&kept[layout::RECORD_HEAD..types_end], &kept[at..end]);
     match bad {
         Found::At(_) => false,
         Found::Nothing => true,
     }
+}
+
+// A row that fails by itself: then the record is not sound, whether its shape is whole or not.
+fn row_fails(kept: &[u8], m: Limits, row: usize) -> bool
+    requires { ⌜ Ready m (now kept) ⌝ }
+    ensures { λ b. ⌜ (b ≡ true → restSound (board m) (now (kept .entry)) ≡ false) ⌝ }
+{
+    let types_end = layout::RECORD_HEAD + layout::TYPE_ROW * head::type_count(kept) as usize;
+    let at = layout::rows_at(m);
+    let end = at + layout::TERM_ROW * head::row_count(kept) as usize;
+    typing::leaf_fails(&kept[layout::RECORD_HEAD..types_end], &kept[at..end], row)
 }
 
 // What is seen of the rows at once.
@@ -249,15 +255,18 @@ fn others_sound(kept: &[u8], m: Limits, future: bool) -> bool
     program_sound(kept, m)
 }
 
-// The tests behind that of the types, each of the rows' by a pass of its own.
+// The tests behind that of the types, each of the rows' by a pass of its own. A row that may fail by itself is asked before them.
 fn rest_sound(kept: &[u8], m: Limits, row: usize) -> bool
     requires { ⌜ Ready m (now kept) ⌝ }
     ensures { λ b. ⌜ b ≡ restSound (board m) (now (kept .entry)) ⌝ }
 {
+    if row_fails(kept, m, row) {
+        return false;
+    }
     if !shape_sound(kept, m) {
         return false;
     }
-    if !term_sound(kept, m, row) {
+    if !term_sound(kept, m) {
         return false;
     }
     others_sound(kept, m, true)

@@ -48,10 +48,9 @@ pub fn first_bad(types: &[u8], rows: &[u8]) -> Found
     judge(types, rows, &ends, &mut scope)
 }
 
-// Whether row i, which has no children, is seen by itself to fail typing.
+// Whether row i, which has no children, is seen by itself to fail typing, if the rows are one tree.
 pub fn leaf_fails(types: &[u8], rows: &[u8], i: usize) -> bool
-    requires { ⌜ Closed (termRows (now rows)) (length (now rows) / 8) ⌝ }
-    ensures { λ b. ⌜ (b ≡ true → firstBad (formOf (typeTable (now (types .entry)))) empty (treeOf (termRows (now (rows .entry)))) ≡ none → ⊥) ⌝ }
+    ensures { λ b. ⌜ (b ≡ true → Closed (termRows (now (rows .entry))) (length (now (rows .entry)) / 8) → firstBad (formOf (typeTable (now (types .entry)))) empty (treeOf (termRows (now (rows .entry)))) ≡ none → ⊥) ⌝ }
 {
     if layout::term_rows(rows) <= i {
         return false;

@@ -14,32 +14,37 @@ rest-sound-spec =
     (λ c κs. search needs)
     -- returns
     (λ c.
-    let args = c .before .before .before .args in
-    let shape-sound = c .before .shape-sound in
-    let if1 = c .if1 in
-    sym (no-shape (args .m) (args .kept .now) (sym (shape-sound .ensures) ∙ not-true _ (if1 .taken))))
-    -- term-sound-requires
-    (λ c κs.
-    let pre = c .before .before .before .pre in
-    let shape-sound = c .before .shape-sound in
-    let if1 = c .if1 in
-    (pre, (sym (shape-sound .ensures) ∙ not-false _ (if1 .left))))
+    let row-fails = c .before .row-fails in
+    sym (row-fails .ensures (c .if1 .taken)))
+    (λ c κs. search needs)
     -- returns-2
     (λ c.
     let args = c .before .before .before .before .before .args in
-    let shape-sound = c .before .before .before .shape-sound in
-    let if1 = c .before .before .if1 in
-    let term-sound = c .before .term-sound in
+    let shape-sound = c .before .shape-sound in
     let if2 = c .if2 in
-    sym (no-term (args .m) (args .kept .now) (sym (shape-sound .ensures) ∙ not-false _ (if1 .left)) (sym (term-sound .ensures) ∙ not-true _ (if2 .taken))))
-    -- others-sound-requires
-    (λ c κs. (c .before .before .before .before .before .pre, λ z. absurd (false≢true (sym z))))
+    sym (no-shape (args .m) (args .kept .now) (sym (shape-sound .ensures) ∙ not-true _ (if2 .taken))))
+    -- term-sound-requires
+    (λ c κs.
+    let pre = c .before .before .before .before .before .pre in
+    let shape-sound = c .before .shape-sound in
+    let if2 = c .if2 in
+    (pre, (sym (shape-sound .ensures) ∙ not-false _ (if2 .left))))
     -- returns-3
     (λ c.
-    let args = c .before .before .before .before .before .before .args in
+    let args = c .before .before .before .before .before .before .before .args in
+    let shape-sound = c .before .before .before .shape-sound in
+    let if2 = c .before .before .if2 in
+    let term-sound = c .before .term-sound in
+    let if3 = c .if3 in
+    sym (no-term (args .m) (args .kept .now) (sym (shape-sound .ensures) ∙ not-false _ (if2 .left)) (sym (term-sound .ensures) ∙ not-true _ (if3 .taken))))
+    -- others-sound-requires
+    (λ c κs. (c .before .before .before .before .before .before .before .pre, λ z. absurd (false≢true (sym z))))
+    -- returns-4
+    (λ c.
+    let args = c .before .before .before .before .before .before .before .before .args in
     let shape-sound = c .before .before .before .before .shape-sound in
-    let if1 = c .before .before .before .if1 in
+    let if2 = c .before .before .before .if2 in
     let term-sound = c .before .before .term-sound in
-    let if2 = c .before .if2 in
+    let if3 = c .before .if3 in
     let others-sound = c .others-sound in
-    others-sound .ensures ∙ sym (the-others (args .m) (args .kept .now) (sym (shape-sound .ensures) ∙ not-false _ (if1 .left)) (sym (term-sound .ensures) ∙ not-false _ (if2 .left)))))
+    others-sound .ensures ∙ sym (the-others (args .m) (args .kept .now) (sym (shape-sound .ensures) ∙ not-false _ (if2 .left)) (sym (term-sound .ensures) ∙ not-false _ (if3 .left)))))

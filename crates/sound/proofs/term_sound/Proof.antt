@@ -1,9 +1,8 @@
 -- `sound::term_sound` meets its contract: the types and rows cut are the record's. Assumes nothing.
-use mathlib.Core.Path.{refl, sym, ap, _∙_}
+use mathlib.Core.Path.{sym, ap, _∙_}
 use native.Mathlib.Omega.{arith}
 use Rattle.meaning.specs.Records.{nothing}
 use Rattle.layout.specs.Rows.{found}
-use Rattle.sound.proofs.Laws.{some-there}
 use Rattle.sound.proofs.Parts.{sizes, rows-length, shape-closed, term-told}
 use borrow.Author.Needs.{needs}
 use Rattle.sound.proofs.term_sound.Statement.{statement}
@@ -14,38 +13,74 @@ term-sound-spec =
     tie.close
     (tie.spec
     -- type-count-requires
-    (λ c κs. let z = sizes (c .before .args .m) (c .before .args .kept .now) (c .before .pre .0) in omega (arith))
+    (λ c κs.
+    let args = c .before .args in
+    let pre = c .before .pre .0 in
+    let z = sizes (args .m) (args .kept .now) pre in
+    omega arith)
     (λ c. search needs)
     (λ c. search needs)
     (λ c. search needs)
     (λ c κs. search needs)
     -- row-count-requires
-    (λ c κs. let z = sizes (c .before .before .before .args .m) (c .before .before .before .args .kept .now) (c .before .before .before .pre .0) in omega (arith))
+    (λ c κs.
+    let args = c .before .before .before .args in
+    let pre = c .before .before .before .pre .0 in
+    let z = sizes (args .m) (args .kept .now) pre in
+    omega arith)
     (λ c. search needs)
     (λ c. search needs)
     -- add-end
-    (λ c. let z = sizes (c .before .before .before .before .args .m) (c .before .before .before .before .args .kept .now) (c .before .before .before .before .pre .0) in omega (arith, c .before .rows-at .ensures))
-    -- sub-types
-    (λ c. let z = sizes (c .before .before .before .before .args .m) (c .before .before .before .before .args .kept .now) (c .before .before .before .before .pre .0) in omega (arith, c .before .before .type-count .ensures))
-    -- part-types-start
-    (λ c. let z = sizes (c .before .before .before .before .args .m) (c .before .before .before .before .args .kept .now) (c .before .before .before .before .pre .0) in omega (arith, c .before .before .type-count .ensures))
-    -- part-types-end
-    (λ c. let z = sizes (c .before .before .before .before .args .m) (c .before .before .before .before .args .kept .now) (c .before .before .before .before .pre .0) in omega (arith, c .before .before .type-count .ensures))
-    -- sub-rows
-    (λ c. let z = sizes (c .before .before .before .before .before .args .m) (c .before .before .before .before .before .args .kept .now) (c .before .before .before .before .before .pre .0) in omega (arith, c .before .before .rows-at .ensures, c .before .row-count .ensures))
-    -- part-rows-start
-    (λ c. let z = sizes (c .before .before .before .before .before .args .m) (c .before .before .before .before .before .args .kept .now) (c .before .before .before .before .before .pre .0) in omega (arith, c .before .before .rows-at .ensures, c .before .row-count .ensures))
-    -- part-rows-end
-    (λ c. let z = sizes (c .before .before .before .before .before .args .m) (c .before .before .before .before .before .args .kept .now) (c .before .before .before .before .before .pre .0) in omega (arith, c .before .before .rows-at .ensures, c .before .row-count .ensures))
-    -- leaf-fails-requires
-    (λ c κs. let z = sizes (c .before .before .before .before .before .before .args .m) (c .before .before .before .before .before .before .args .kept .now) (c .before .before .before .before .before .before .pre .0) in shape-closed (c .before .before .before .before .before .before .args .m) (c .before .before .before .before .before .before .args .kept .now) z _ _ (c .before .before .before .rows-at .ensures) (c .before .before .row-count .ensures) (c .before .before .before .before .before .before .pre .1))
-    -- returns
-    (λ c. let z = sizes (c .before .before .before .before .before .before .before .before .args .m) (c .before .before .before .before .before .before .before .before .args .kept .now) (c .before .before .before .before .before .before .before .before .pre .0) in some-there _ (c .before .leaf-fails .ensures (c .if1 .taken)) ∙ term-told (c .before .before .before .before .before .before .before .before .args .m) (c .before .before .before .before .before .before .before .before .args .kept .now) z _ _ _ _ (c .before .before .before .before .before .before .type-count .ensures) (c .before .before .before .before .before .rows-at .ensures) (c .before .before .before .before .row-count .ensures) refl)
+    (λ c.
+    let args = c .before .before .before .before .args in
+    let pre = c .before .before .before .before .pre .0 in
+    let rows-at = c .before .rows-at in
+    let z = sizes (args .m) (args .kept .now) pre in
+    omega (arith, rows-at .ensures))
+    (λ c. search needs)
+    (λ c. search needs)
+    -- part-first-bad-end
+    (λ c.
+    let args = c .before .before .before .before .args in
+    let pre = c .before .before .before .before .pre .0 in
+    let type-count = c .before .before .type-count in
+    let z = sizes (args .m) (args .kept .now) pre in
+    omega (arith, type-count .ensures))
+    (λ c. search needs)
+    (λ c. search needs)
+    -- part-first-bad-end-2
+    (λ c.
+    let args = c .before .before .before .before .before .args in
+    let pre = c .before .before .before .before .before .pre .0 in
+    let rows-at = c .before .before .rows-at in
+    let row-count = c .before .row-count in
+    let z = sizes (args .m) (args .kept .now) pre in
+    omega (arith, rows-at .ensures, row-count .ensures))
     -- first-bad-requires
-    (λ c κs. let z = sizes (c .before .before .before .before .before .before .before .before .args .m) (c .before .before .before .before .before .before .before .before .args .kept .now) (c .before .before .before .before .before .before .before .before .pre .0) in (omega (arith, rows-length (c .before .before .before .before .before .before .before .before .args .m) (c .before .before .before .before .before .before .before .before .args .kept .now) z _ _ (c .before .before .before .before .before .rows-at .ensures) (c .before .before .before .before .row-count .ensures), c .before .before .before .before .row-count .ensures), shape-closed (c .before .before .before .before .before .before .before .before .args .m) (c .before .before .before .before .before .before .before .before .args .kept .now) z _ _ (c .before .before .before .before .before .rows-at .ensures) (c .before .before .before .before .row-count .ensures) (c .before .before .before .before .before .before .before .before .pre .1)))
+    (λ c κs.
+    let args = c .before .before .before .before .before .before .args in
+    let pre = c .before .before .before .before .before .before .pre in
+    let rows-at = c .before .before .before .rows-at in
+    let row-count = c .before .before .row-count in
+    let z = sizes (args .m) (args .kept .now) (pre .0) in
+    (omega (arith, rows-length (args .m) (args .kept .now) z _ _ (rows-at .ensures) (row-count .ensures), row-count .ensures), shape-closed (args .m) (args .kept .now) z _ _ (rows-at .ensures) (row-count .ensures) (pre .1)))
     (λ c. search needs)
     (λ c. search needs)
+    -- returns
+    (λ c.
+    let args = c .before .before .before .before .before .before .before .before .before .args in
+    let pre = c .before .before .before .before .before .before .before .before .before .pre in
+    let type-count = c .before .before .before .before .before .before .before .type-count in
+    let rows-at = c .before .before .before .before .before .before .rows-at in
+    let row-count = c .before .before .before .before .before .row-count in
+    let z = sizes (args .m) (args .kept .now) (pre .0) in
+    unfold nothing in term-told (args .m) (args .kept .now) z _ _ _ _ (type-count .ensures) (rows-at .ensures) (row-count .ensures) (sym (ap found (c .enum-told .given .1)) ∙ c .before .before .first-bad .ensures))
     -- returns-2
-    (λ c. let z = sizes (c .before .before .before .before .before .before .before .before .before .before .before .args .m) (c .before .before .before .before .before .before .before .before .before .before .before .args .kept .now) (c .before .before .before .before .before .before .before .before .before .before .before .pre .0) in unfold nothing in term-told (c .before .before .before .before .before .before .before .before .before .before .before .args .m) (c .before .before .before .before .before .before .before .before .before .before .before .args .kept .now) z _ _ _ _ (c .before .before .before .before .before .before .before .before .before .type-count .ensures) (c .before .before .before .before .before .before .before .before .rows-at .ensures) (c .before .before .before .before .before .before .before .row-count .ensures) (sym (ap found (c .enum-told .given .1)) ∙ c .before .before .first-bad .ensures))
-    -- returns-3
-    (λ c. let z = sizes (c .before .before .before .before .before .before .before .before .before .before .before .args .m) (c .before .before .before .before .before .before .before .before .before .before .before .args .kept .now) (c .before .before .before .before .before .before .before .before .before .before .before .pre .0) in unfold nothing in term-told (c .before .before .before .before .before .before .before .before .before .before .before .args .m) (c .before .before .before .before .before .before .before .before .before .before .before .args .kept .now) z _ _ _ _ (c .before .before .before .before .before .before .before .before .before .type-count .ensures) (c .before .before .before .before .before .before .before .before .rows-at .ensures) (c .before .before .before .before .before .before .before .row-count .ensures) (sym (ap found (c .enum-told2 .given .1)) ∙ c .before .before .first-bad .ensures)))
+    (λ c.
+    let args = c .before .before .before .before .before .before .before .before .before .args in
+    let pre = c .before .before .before .before .before .before .before .before .before .pre in
+    let type-count = c .before .before .before .before .before .before .before .type-count in
+    let rows-at = c .before .before .before .before .before .before .rows-at in
+    let row-count = c .before .before .before .before .before .row-count in
+    let z = sizes (args .m) (args .kept .now) (pre .0) in
+    unfold nothing in term-told (args .m) (args .kept .now) z _ _ _ _ (type-count .ensures) (rows-at .ensures) (row-count .ensures) (sym (ap found (c .enum-told2 .given .1)) ∙ c .before .before .first-bad .ensures)))

@@ -33,6 +33,6 @@ leaf-fails-spec =
     (λ c e. absurd (false≢true e))
     (λ c e. absurd (false≢true e))
     -- returns-7
-    (λ c.
+    (λ c e closed.
     let a = c .before .before .before .before .before .before .before .before .before .args in
-    row-wrong (a .types .now) (a .rows .now) (a .i) _ _ _ _ (omega arith) (c .before .before .before .before .row-at .ensures) (c .before .match .rest .0 .0 .0 .1) (c .before .before .before .before .before .before .before .before .before .pre) _ (c .leaf-ok .ensures)))
+    row-wrong (a .types .now) (a .rows .now) (a .i) _ _ _ _ (omega arith) (c .before .before .before .before .row-at .ensures) (c .before .match .rest .0 .0 .0 .1) closed _ (c .leaf-ok .ensures) e))
