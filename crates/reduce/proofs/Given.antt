@@ -19,7 +19,7 @@ use Rattle.put.proofs.Passing.{tree}
 use Rattle.put.proofs.Meets.{stands, rows-put}
 use Rattle.reduce.specs.Rule.{quiet, ruleOf}
 use Rattle.reduce.specs.Plan.{rowsOf, rowNo, ruleRows, TiesAt, CallsAt, Plans}
-use Rattle.reduce.specs.Given.{tieRow, PutsRule}
+use Rattle.reduce.specs.Given.{tieRow, EndsArgs, PutsRule}
 use Rattle.reduce.specs.declared.Plan.the-variants.{Stays, Tie}
 use Rattle.reduce.proofs.Roots.{grove-one, grove-two, tree-grove, grove-part, grove-last, kind-is, type-is, made-as, sized-as, root, root-size}
 use Rattle.meaning.proofs.Trees.Parse.{grove-more}
@@ -293,9 +293,9 @@ module _ (l : List (List ℕ)) (exact : map raw (map rowOf l) ≡ l) (inside : s
       bounds-in zero h = (omega (arith, g, q), omega (arith, q, let-whole l exact inside e body g))
       bounds-in (suc j) h = absurd (omega arith)
 
-  pub tie-puts : (form : ℕ → Form) → TiesAt form l → (x n : ℕ) (ns bs : List ℕ) → x ≡ getD (names (params (form (typeNo (rowNo l 1))))) 0 0 → n ≡ size (treeOf (map rowOf l))
+  pub tie-puts : (form : ℕ → Form) → TiesAt form l → (x n u : ℕ) (ns bs : List ℕ) → typeNo (rowNo l 1) ≡ u → x ≡ getD (names (params (form u))) 0 0 → n ≡ size (treeOf (map rowOf l))
       → PutsRule form l (tieRow l ∷ []) (record { body = 2; count = 1; names = x ∷ ns; bounds = 0 ∷ n ∷ bs })
-  tie-puts form (e, q, z) x n ns bs p r =
+  tie-puts form (e, q, z) x n u ns bs t p r =
       let whole = tie-whole l exact inside e q in
       record {
         few = omega arith;
@@ -306,7 +306,7 @@ module _ (l : List (List ℕ)) (exact : map raw (map rowOf l) ≡ l) (inside : s
           bounded = omega arith;
           within = λ j h. bounds-in j h;
         };
-        rows = tie-rows l exact inside e q form x n bs (first-name (params (form (typeNo (rowNo l 1)))) x z p) z r;
+        rows = tie-rows l exact inside e q form x n bs (first-name (params (form (typeNo (rowNo l 1)))) x z (p ∙ ap (λ (y : ℕ). getD (names (params (form y))) 0 0) (sym t))) z r;
       }
     where
       bounds-in : (j : ℕ) → j < 1 → (getD (0 ∷ n ∷ bs) j 0 ≤ getD (0 ∷ n ∷ bs) (j + 1) 0) × (getD (0 ∷ n ∷ bs) (j + 1) 0 ≤ length l)
@@ -314,26 +314,29 @@ module _ (l : List (List ℕ)) (exact : map raw (map rowOf l) ≡ l) (inside : s
       bounds-in (suc j) h = absurd (omega arith)
 
   -- as many names as the function has and arguments as the call has
-  pub call-puts : (form : ℕ → Form) (first : ℕ) → CallsAt l first → (n : ℕ) (ns bs : List ℕ) → n ≡ min (length (params (form (typeNo (rowNo l 1))))) (nNo (rowNo l 0)) → n ≤ 8
-      → take n ns ≡ take n (names (params (form (typeNo (rowNo l 1))))) → length ns ≡ 8 → length bs ≡ 9
+  pub call-puts : (form : ℕ → Form) (first : ℕ) → CallsAt l first → (n m u : ℕ) (ns bs : List ℕ) → nNo (rowNo l 0) ≡ m → typeNo (rowNo l 1) ≡ u
+      → n ≡ min (length (params (form u))) m → n ≤ 8 → take n ns ≡ take n (names (params (form u))) → length ns ≡ 8 → length bs ≡ 9
       → ((j : ℕ) → j ≤ n → getD bs j 0 ≡ first + sizes (grove (map rowOf l) first j))
-      → PutsRule form l [] (record { body = 2; count = n; names = ns; bounds = bs })
-  call-puts form first (e, q, g) n ns bs ln few nm ls lb begins =
+      → PutsRule form l [] (record { body = 2; count = n; names = ns; bounds = bs }) × EndsArgs l (record { body = 2; count = n; names = ns; bounds = bs })
+  call-puts form first (e, q, g) n m u ns bs i t ln few nm ls lb begins =
       let ps = params (form (typeNo (rowNo l 1))) in
-      let m = nNo (rowNo l 0) in
-      let same : take n (names ps) ≡ take m (names ps) = take-least n m (names ps) (ln ∙ ap (λ (x : ℕ). min x m) (sym (names-length ps))) in
-      let lt : length (take m (names ps)) ≡ n = length-take m (names ps) ∙ omega (arith, ln, names-length ps) in
-      let all : take n ns ≡ take m (names ps) = nm ∙ same in
-      let at : (j : ℕ) → j ≤ length (take m (names ps)) → getD bs j 0 ≡ first + sizes (grove (map rowOf l) first j) = λ j h. begins j (omega (arith, h, lt)) in
-      let within = call-within l exact inside e q first g form bs at (omega (arith, lt, ln)) in
-      record {
-        few = omega (arith, few, ls);
-        ready = record {
-          few = short;
-          whole = call-whole l exact inside e q;
-          eight = rw all (omega (arith, lt, few));
-          bounded = rw all (omega (arith, lt, few, lb));
-          within = λ j h. within j (omega (arith, h, ap length all));
-        };
-        rows = rw all (call-rows l exact inside e q first g form bs at (omega (arith, lt, ln)));
-      }
+      let k = nNo (rowNo l 0) in
+      let least : n ≡ min (length ps) k = omega (arith, ln, i, ap (λ (y : ℕ). length (params (form y))) t) in
+      let same : take n (names ps) ≡ take k (names ps) = take-least n k (names ps) (least ∙ ap (λ (x : ℕ). min x k) (sym (names-length ps))) in
+      let lt : length (take k (names ps)) ≡ n = length-take k (names ps) ∙ omega (arith, least, names-length ps) in
+      let all : take n ns ≡ take k (names ps) = nm ∙ ap (λ (y : ℕ). take n (names (params (form y)))) (sym t) ∙ same in
+      let at : (j : ℕ) → j ≤ length (take k (names ps)) → getD bs j 0 ≡ first + sizes (grove (map rowOf l) first j) = λ j h. begins j (omega (arith, h, lt)) in
+      let within = call-within l exact inside e q first g form bs at (omega (arith, lt, least)) in (
+        record {
+          few = omega (arith, few, ls);
+          ready = record {
+            few = short;
+            whole = call-whole l exact inside e q;
+            eight = rw all (omega (arith, lt, few));
+            bounded = rw all (omega (arith, lt, few, lb));
+            within = λ j h. within j (omega (arith, h, ap length all));
+          };
+          rows = rw all (call-rows l exact inside e q first g form bs at (omega (arith, lt, least)));
+        },
+        λ p. begins n (omega arith) ∙ ap (λ (x : ℕ). first + sizes (grove (map rowOf l) first x)) p ∙ args-whole l exact inside e q first g,
+      )

@@ -22,8 +22,11 @@ fn let_once(types: &[u8], rows: &[u8], to: &mut [u8]) -> Pass
     requires { ⌜ Front (now rows) × (kindNo (rowNo (rowTable (now rows)) 0) ≡ 19) × (length (now to) ≤ 32768) ⌝ }
     ensures { λ x. ⌜ MadeAtOnce (formOf (typeTable (now (types .entry)))) (rowTable (now (rows .entry))) (rowTable (now (to .exit))) x ⌝ }
 {
-    let p = puts::let_puts(rows, terms::end_of(rows, 1));
-    puts::put_puts(types, rows, p, to)
+    let r = places::row_of(rows, 0);
+    let body = terms::end_of(rows, 1);
+    let names = [r.word as u16];
+    let bounds = [1, body as u16];
+    put::put_once(types, rows, body, &names, &bounds, to)
 }
 
 // Of a call of a native function: its body with the arguments put, where it has as many as the function has names.
@@ -32,14 +35,17 @@ fn call_once(types: &[u8], rows: &[u8], to: &mut [u8]) -> Pass
     ensures { λ x. ⌜ MadeAtOnce (formOf (typeTable (now (types .entry)))) (rowTable (now (rows .entry))) (rowTable (now (to .exit))) x ⌝ }
 {
     let r = places::row_of(rows, 0);
-    let p = puts::call_puts(types, rows, terms::end_of(rows, 1));
-    let n = p.count;
-    if n != r.n as usize {
+    let c = places::row_of(rows, 1);
+    let n = r.n as usize;
+    if put::param_count(types, c.ty) < n {
         return Pass::Unknown;
     }
-    let bounds = p.bounds;
+    let mut names = [0u16; 8];
+    puts::fill_names(types, c.ty, n, &mut names);
+    let mut bounds = [0u16; 9];
+    puts::fill_bounds(rows, terms::end_of(rows, 1), n, &mut bounds);
     let old = layout::wide(bounds[n]);
-    let x = puts::put_puts(types, rows, p, to);
+    let x = put::put_once(types, rows, 2, &names[..n], &bounds, to);
     match x {
         Pass::Made(e, new) => Pass::Made(old, new),
         Pass::Unknown => Pass::Unknown,
@@ -71,7 +77,9 @@ fn tie_once(types: &[u8], rows: &[u8], to: &mut [u8]) -> Pass
     }
     let r = places::row_of(rows, 0);
     let old = terms::end_of(rows, 0);
-    let p = puts::tie_puts(types, rows, old);
+    let c = places::row_of(rows, 1);
+    let names = [put::param_name(types, c.ty, 0)];
+    let bounds = [0, old as u16];
     put::write_row(
         to,
         0,
@@ -82,7 +90,7 @@ fn tie_once(types: &[u8], rows: &[u8], to: &mut [u8]) -> Pass
             word: 0,
         },
     );
-    let x = puts::put_puts(types, rows, p, &mut to[layout::TERM_ROW..]);
+    let x = put::put_once(types, rows, 2, &names, &bounds, &mut to[layout::TERM_ROW..]);
     match x {
         Pass::Made(e, new) => Pass::Made(old, new + 1),
         Pass::Unknown => Pass::Unknown,

@@ -1,7 +1,6 @@
 // Rules that put arguments for names: let, a call of a native function, fix.
 use crate::places;
 use layout::Row;
-use put::Pass;
 ghost use mathlib.Core.Path.{_≡_};
 ghost use mathlib.Core.List.{[], _∷_, map};
 ghost use Prim.Native.Nat.{ℕ, _+_, _*_, _-_, _≤_, _<_, min};
@@ -12,7 +11,7 @@ ghost use Rattle.meaning.specs.Types.{Form, formOf, params, names as namesOf, e
 ghost use Rattle.meaning.specs.Terms.{rowOf, is, size, sizes, treeOf, grove};
 ghost use Rattle.reduce.specs.Rule.{ruleOf, sizeIf, rowsIf, Redex, Front};
 ghost use Rattle.reduce.specs.Plan.{LetAt, CallsAt, TiesAt};
-ghost use Rattle.put.specs.Put.{Ready, putRows, Exact, Passes};
+ghost use Rattle.put.specs.Put.{Ready, putRows};
 ghost use Rattle.reduce.specs.Given.{tieRow, PutsRule, EndsArgs};
 
 // The element type of a list type.
@@ -187,15 +186,4 @@ pub fn write_tie(types: &[u8], rows: &[u8], to: &mut [u8])
         },
     );
     write_puts(types, rows, p, &mut to[layout::TERM_ROW..]);
-}
-
-// The same rows, in one pass, into a table that may have more room.
-pub fn put_puts(types: &[u8], rows: &[u8], p: Puts, to: &mut [u8]) -> Pass
-    requires { ⌜ (p .count ≤ length (p .names)) × Ready (rowTable (now rows)) (p .body) (take (p .count) (p .names)) (p .bounds) × Exact (rowTable (now rows)) × (length (now to) ≤ 32768) ⌝ }
-    ensures { λ x. ⌜ Passes (formOf (typeTable (now (types .entry)))) (rowTable (now (rows .entry))) (p .body) (take (p .count) (p .names)) (p .bounds) (rowTable (now (to .exit))) x ⌝ }
-{
-    let n = p.count;
-    let names = p.names;
-    let bounds = p.bounds;
-    put::put_once(types, rows, p.body, &names[..n], &bounds, to)
 }

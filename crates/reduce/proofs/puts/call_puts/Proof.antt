@@ -1,15 +1,12 @@
 -- As many names as the function has and arguments as the call has.
-use mathlib.Core.Path.{_≡_, refl, ap, sym, _∙_}
+use mathlib.Core.Path.{_≡_, refl, ap}
 use native.Mathlib.Omega.{arith}
-use Prim.Native.Nat.{ℕ, _+_, _≤_}
+use Prim.Native.Nat.{ℕ}
 use mathlib.Core.List.{List, map}
-use lib.ListN.{length}
 use Rattle.layout.specs.Rows.{typeTable, rowTable}
 use Rattle.layout.proofs.Tables.{row-table-length}
-use Prim.Native.Nat.{min}
-use lib.ListN.{take}
-use Rattle.meaning.specs.Types.{formOf, params, names}
-use Rattle.meaning.specs.Terms.{rowOf, nNo, typeNo, sizes, grove}
+use Rattle.meaning.specs.Types.{formOf}
+use Rattle.meaning.specs.Terms.{rowOf, nNo, typeNo}
 use Rattle.reduce.specs.Plan.{rowNo}
 use Rattle.reduce.proofs.Roots.{some-row, grove-less}
 use Rattle.reduce.proofs.Given.{call-more, args-whole, call-puts}
@@ -66,17 +63,15 @@ returns : tie.Need-returns
 returns c =
     let s = c .before .before .before .before .before .before .before .before .before .before .before .before .before in
     let T = rowTable (s .args .rows .now) in
-    let L = map rowOf T in
     let R = s .pre .0 in
     let F = formOf (typeTable (s .args .types .now)) in
-    let short : length T ≤ 2048 = omega (arith, R .few, row-table-length (s .args .rows .now)) in
-    let i : nNo (rowNo T 0) ≡ c .before .before .before .before .before .before .before .before .before .before .row-of .result .n = ap (λ (r : List ℕ). nNo r) (c .before .before .before .before .before .before .before .before .before .before .row-of .ensures) in
-    let u : typeNo (rowNo T 1) ≡ c .before .before .before .before .before .before .before .before .before .row-of2 .result .ty = ap (λ (r : List ℕ). typeNo r) (c .before .before .before .before .before .before .before .before .before .row-of2 .ensures) in
-    let ln : c .before .before .before .before .before .before .least .result ≡ min (length (params (F (typeNo (rowNo T 1))))) (nNo (rowNo T 0)) = c .before .before .before .before .before .before .least .ensures ∙ ap (λ (x : ℕ). min x (c .before .before .before .before .before .before .before .before .before .before .row-of .result .n)) (c .before .before .before .before .before .before .before .before .param-count .ensures .0 ∙ ap (λ (t : ℕ). length (params (F t))) (sym u)) ∙ ap (λ (x : ℕ). min (length (params (F (typeNo (rowNo T 1))))) x) (sym i) in
-    let n = c .before .before .before .before .before .before .least .result in (
-      call-puts T (R .exact) (R .inside) short F (s .args .first) (s .pre .1) _ _ _ ln (omega (arith, c .before .before .before .before .before .before .least .ensures, c .before .before .before .before .before .before .before .before .param-count .ensures .1)) (c .before .before .before .before .fill-names .ensures ∙ ap (λ (t : ℕ). take (c .before .before .before .before .before .before .least .result) (names (params (F t)))) (sym u)) (c .before .before .before .before .fill-names .kept .1 .1 .1 .0) (c .before .fill-bounds .kept .1 .1 .1 .0) (c .before .fill-bounds .ensures),
-      λ q. c .before .fill-bounds .ensures n (omega arith) ∙ ap (λ (x : ℕ). s .args .first + sizes (grove L (s .args .first) x)) q ∙ args-whole T (R .exact) (R .inside) (s .pre .1 .0) (s .pre .1 .1) (s .args .first) (s .pre .1 .2),
-    )
+    let i = ap (λ (r : List ℕ). nNo r) (c .before .before .before .before .before .before .before .before .before .before .row-of .ensures) in
+    let u = ap (λ (r : List ℕ). typeNo r) (c .before .before .before .before .before .before .before .before .before .row-of2 .ensures) in
+    let count = c .before .before .before .before .before .before .before .before .param-count .ensures in
+    let least = c .before .before .before .before .before .before .least .ensures in
+    let f = c .before .before .before .before .fill-names in
+    let b = c .before .fill-bounds in
+    call-puts T (R .exact) (R .inside) (R .few) F (s .args .first) (s .pre .1) _ _ _ _ _ i u (omega (arith, least, count .0)) (omega (arith, least, count .1)) (f .ensures) (f .kept .1 .1 .1 .0) (b .kept .1 .1 .1 .0) (b .ensures)
 
 pub call-puts-spec : {M : Type 1} → statement M
 call-puts-spec =

@@ -1,12 +1,11 @@
 -- The first name, and the whole as its term.
-use mathlib.Core.Path.{ap, sym, _∙_}
+use mathlib.Core.Path.{ap}
 use native.Mathlib.Omega.{arith}
-use Prim.Native.Nat.{ℕ, _≤_}
+use Prim.Native.Nat.{ℕ}
 use mathlib.Core.List.{List}
-use lib.ListN.{length, getD}
+use lib.ListN.{length}
 use Rattle.layout.specs.Rows.{typeTable, rowTable}
-use Rattle.layout.proofs.Tables.{row-table-length}
-use Rattle.meaning.specs.Types.{formOf, params, names}
+use Rattle.meaning.specs.Types.{formOf, params}
 use Rattle.meaning.specs.Terms.{typeNo}
 use Rattle.reduce.proofs.Bound.{some-bound}
 use Rattle.reduce.proofs.Given.{fix-more, tie-puts}
@@ -39,10 +38,8 @@ returns c =
     let s = c .before .before .before .before in
     let T = rowTable (s .args .rows .now) in
     let R = s .pre .0 in
-    let short : length T ≤ 2048 = omega (arith, R .few, row-table-length (s .args .rows .now)) in
     let F = formOf (typeTable (s .args .types .now)) in
-    let u = ap (λ (r : List ℕ). typeNo r) (c .before .row-of .ensures) in
-    tie-puts T (R .exact) (R .inside) short F (s .pre .1) _ _ _ _ (c .param-name .ensures ∙ ap (λ (t : ℕ). getD (names (params (F t))) 0 0) (sym u)) (s .pre .2)
+    tie-puts T (R .exact) (R .inside) (R .few) F (s .pre .1) _ _ _ _ _ (ap (λ (r : List ℕ). typeNo r) (c .before .row-of .ensures)) (c .param-name .ensures) (s .pre .2)
 
 pub tie-puts-spec : {M : Type 1} → statement M
 tie-puts-spec =
