@@ -1,20 +1,22 @@
 -- A search that stopped: where the rows of its tree stand, what its rule tells of the whole, and what is behind a step. Assumes nothing.
 use Prim.Native.Nat.{ℕ, zero, suc, _+_, _*_, _-_, _<_, _≤_}
 use mathlib.Core.Path.{_≡_, refl, ap, sym, _∙_}
-use mathlib.Core.Bool.{Bool, true, false, not, false≢true}
+use mathlib.Core.Bool.{Bool, true, false, cond, not, false≢true}
 use mathlib.Core.List.{List, _∷_, map}
-use mathlib.Core.Option.{Option}
+use mathlib.Core.Option.{Option, none}
 use native.Mathlib.Omega.{arith}
 use lib.Dec.{eqb}
 use borrow.Author.Tests.{eqb-true}
 use lib.ListN.{length, getD, length-append}
 use Rattle.meaning.specs.Bytes.{_∧ᵇ_}
 use Rattle.meaning.specs.Types.{Form}
-use Rattle.meaning.specs.Terms.{str, file, truth, Head, lit, var, lambda, foreign, apply, future, ite, fix, nil, cons, isnil, zip, tuple, project, lproject, bind, arity, code, Tree, Forest, node, more, headOf, is, raw, flat, size, top}
+use Rattle.meaning.specs.Terms.{str, file, truth, Head, lit, var, lambda, foreign, apply, future, ite, fix, nil, cons, isnil, zip, tuple, project, lproject, bind, arity, code, nOf, Tree, Forest, node, end, more, headOf, is, raw, flat, size, top}
 use Rattle.meaning.specs.Typing.{firstIs}
-use Rattle.meaning.specs.Steps.{Call, go, step}
+use Rattle.meaning.specs.Steps.{Call, Out, go, ready, anyNil, zipCons, zipStep, applyStep, contract, step}
 use Rattle.meaning.proofs.Trees.Parse.{length-flat}
-use Rattle.search.specs.Frames.{waits, spelled, Frame, below, around, rowOfFrame, passedRows}
+use Rattle.meaning.proofs.Trees.Tests.{left, right}
+use Rattle.reduce.specs.Lists.{zips, listsBelow, zipsLists, treeZips}
+use Rattle.search.specs.Frames.{waits, Rests, spelled, Frame, below, around, rowOfFrame, passedRows}
 use Rattle.search.specs.Kept.{table, toCome, rowCount, rowIn, Held}
 use Rattle.search.specs.Search.{Searching, Seen, here, done, stop, Changed}
 use Rattle.search.specs.declared.Stand.{Stand}
@@ -101,27 +103,47 @@ six-not-seven c e = ap (λ (i : ℕ). eqb i 7) (eqb-true (code (headOf c)) 6 (no
     not-false true e = refl
     not-false false e = absurd (false≢true (sym e))
 
-pub rests-no-call : (h : Head) (f : Forest (arity h)) → waits h f ≡ false → (eqb (code h) 8 ∧ᵇ firstIs 7 f) ≡ false
+at-once-no-call : (h : Head) (f : Forest (arity h)) → waits h f ≡ false → (eqb (code h) 8 ∧ᵇ firstIs 7 f) ≡ false
 unfolding waits code firstIs _∧ᵇ_
-rests-no-call (lit (str w)) f e = refl
-rests-no-call (lit (file w)) f e = refl
-rests-no-call (lit (truth true)) f e = refl
-rests-no-call (lit (truth false)) f e = refl
-rests-no-call (var x) f e = refl
-rests-no-call lambda f e = refl
-rests-no-call (foreign w) f e = refl
-rests-no-call (apply n) (more c args) e = six-not-seven c e
-rests-no-call (future j) f e = refl
-rests-no-call ite f e = refl
-rests-no-call fix f e = refl
-rests-no-call nil f e = refl
-rests-no-call cons f e = refl
-rests-no-call isnil f e = refl
-rests-no-call (zip m) f e = refl
-rests-no-call (tuple n) f e = refl
-rests-no-call (project i) f e = refl
-rests-no-call (lproject i) f e = refl
-rests-no-call (bind x) f e = refl
+at-once-no-call (lit (str w)) f e = refl
+at-once-no-call (lit (file w)) f e = refl
+at-once-no-call (lit (truth true)) f e = refl
+at-once-no-call (lit (truth false)) f e = refl
+at-once-no-call (var x) f e = refl
+at-once-no-call lambda f e = refl
+at-once-no-call (foreign w) f e = refl
+at-once-no-call (apply n) (more c args) e = six-not-seven c e
+at-once-no-call (future j) f e = refl
+at-once-no-call ite f e = refl
+at-once-no-call fix f e = refl
+at-once-no-call nil f e = refl
+at-once-no-call cons f e = refl
+at-once-no-call isnil f e = refl
+at-once-no-call (zip m) f e = refl
+at-once-no-call (tuple n) f e = refl
+at-once-no-call (project i) f e = refl
+at-once-no-call (lproject i) f e = refl
+at-once-no-call (bind x) f e = refl
+
+first-zip : {n : ℕ} (f : Forest n) → firstIs 15 f ≡ true → firstIs 7 f ≡ false
+unfolding firstIs is
+first-zip end e = refl
+first-zip (more c f) e = ap (λ (i : ℕ). eqb i 7) (eqb-true (code (headOf c)) 15 e)
+
+zip-no-call : (h : Head) (f : Forest (arity h)) → zipsLists h f ≡ true → (eqb (code h) 8 ∧ᵇ firstIs 7 f) ≡ false
+unfolding zipsLists zips _∧ᵇ_
+zip-no-call h f e = ap (λ (b : Bool). eqb (code h) 8 ∧ᵇ b) (first-zip f (right (eqb (code h) 8) (firstIs 15 f) (left (eqb (code h) 8 ∧ᵇ firstIs 15 f) (listsBelow f) e))) ∙ never (eqb (code h) 8)
+  where
+    never : (b : Bool) → (b ∧ᵇ false) ≡ false
+    never true = refl
+    never false = refl
+
+rests-no-call : (h : Head) (f : Forest (arity h)) → Rests h f → (eqb (code h) 8 ∧ᵇ firstIs 7 f) ≡ false
+rests-no-call h f r = by-wait (waits h f) refl
+  where
+    by-wait : (b : Bool) → waits h f ≡ b → (eqb (code h) 8 ∧ᵇ firstIs 7 f) ≡ false
+    by-wait true e = zip-no-call h f (r e)
+    by-wait false e = at-once-no-call h f e
 
 -- whether a tree is a call of a foreign function
 unfoldable pub isCall : Tree → Bool
@@ -130,3 +152,61 @@ isCall (node h u f) = eqb (code h) 8 ∧ᵇ firstIs 7 f
 pub here-no-call : (Fs : List Frame) (ts : List Tree) (old : Tree) (outer : List Frame) (rest : List Tree) → Site true Fs ts old outer rest → isCall old ≡ false
 unfolding isCall
 here-no-call Fs ts old outer rest (at-row {h = h} {u = u} {f = f} o w) = rests-no-call h f w
+
+-- A call of a zip that rests goes ---------------------------------------------------------------------------------
+
+zip-waits : (h : Head) (f : Forest (arity h)) → zips h f ≡ true → waits h f ≡ true
+unfolding zips waits firstIs code is _∧ᵇ_
+zip-waits (apply n) (more c args) e = ap (λ (i : ℕ). not (eqb i 6)) (eqb-true (code (headOf c)) 15 e)
+zip-waits (lit (str w)) f e = absurd (false≢true e)
+zip-waits (lit (file w)) f e = absurd (false≢true e)
+zip-waits (lit (truth true)) f e = absurd (false≢true e)
+zip-waits (lit (truth false)) f e = absurd (false≢true e)
+zip-waits (var x) f e = absurd (false≢true e)
+zip-waits lambda f e = absurd (false≢true e)
+zip-waits (foreign w) f e = absurd (false≢true e)
+zip-waits (future j) f e = absurd (false≢true e)
+zip-waits ite f e = absurd (false≢true e)
+zip-waits fix f e = absurd (false≢true e)
+zip-waits nil f e = absurd (false≢true e)
+zip-waits cons f e = absurd (false≢true e)
+zip-waits isnil f e = absurd (false≢true e)
+zip-waits (zip m) f e = absurd (false≢true e)
+zip-waits (tuple n) f e = absurd (false≢true e)
+zip-waits (project i) f e = absurd (false≢true e)
+zip-waits (lproject i) f e = absurd (false≢true e)
+zip-waits (bind x) f e = absurd (false≢true e)
+
+module _ (form : ℕ → Form) (k : ℕ) where
+  zip-goes : (h : Head) (u : ℕ) (f : Forest (arity h)) → zipsLists h f ≡ true → (v : Tree) × (contract form k h u f ≡ go none v)
+  unfolding zipsLists zips listsBelow contract applyStep zipStep firstIs code is _∧ᵇ_
+  zip-goes (apply n) u (more c args) e =
+      let q : code (headOf c) ≡ 15 = eqb-true (code (headOf c)) 15 (left (eqb (code (headOf c)) 15) (ready (nOf (headOf c)) args) e) in
+      let v : ready (nOf (headOf c)) args ≡ true = right (eqb (code (headOf c)) 15) (ready (nOf (headOf c)) args) e in
+      (cond (anyNil (nOf (headOf c)) args) (node nil u end) (zipCons form u (nOf (headOf c)) c args), rw (q, v) (either (anyNil (nOf (headOf c)) args) (node nil u end) (zipCons form u (nOf (headOf c)) c args)))
+    where
+      either : (b : Bool) (x y : Tree) → cond b (go none x) (go none y) ≡ go none (cond b x y)
+      either true x y = refl
+      either false x y = refl
+  zip-goes (lit (str w)) u f e = absurd (false≢true e)
+  zip-goes (lit (file w)) u f e = absurd (false≢true e)
+  zip-goes (lit (truth true)) u f e = absurd (false≢true e)
+  zip-goes (lit (truth false)) u f e = absurd (false≢true e)
+  zip-goes (var x) u f e = absurd (false≢true e)
+  zip-goes lambda u f e = absurd (false≢true e)
+  zip-goes (foreign w) u f e = absurd (false≢true e)
+  zip-goes (future j) u f e = absurd (false≢true e)
+  zip-goes ite u f e = absurd (false≢true e)
+  zip-goes fix u f e = absurd (false≢true e)
+  zip-goes nil u f e = absurd (false≢true e)
+  zip-goes cons u f e = absurd (false≢true e)
+  zip-goes isnil u f e = absurd (false≢true e)
+  zip-goes (zip m) u f e = absurd (false≢true e)
+  zip-goes (tuple n) u f e = absurd (false≢true e)
+  zip-goes (project i) u f e = absurd (false≢true e)
+  zip-goes (lproject i) u f e = absurd (false≢true e)
+  zip-goes (bind x) u f e = absurd (false≢true e)
+
+  pub here-zips : (Fs : List Frame) (ts : List Tree) (old : Tree) (outer : List Frame) (rest : List Tree) → Site true Fs ts old outer rest → treeZips old ≡ true → (v : Tree) × (own form k old ≡ go none v)
+  unfolding own treeZips
+  here-zips Fs ts old outer rest (at-row {h = h} {u = u} {f = f} o w) e = zip-goes h u f (w (zip-waits h f e))

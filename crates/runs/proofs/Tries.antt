@@ -31,13 +31,14 @@ use Rattle.reduce.specs.Rule.{Redex, Front, told, sizeIf, rowsIf, ruleOf}
 use Rattle.reduce.specs.declared.Outcome.the-variants.{Stays, Goes}
 use Rattle.reduce.specs.Behind.{Begins, StandsBehind}
 use Rattle.reduce.specs.Once.{Goes as Goes′, MadeAtOnce}
+use Rattle.reduce.specs.Lists.{treeZips}
 use Rattle.put.specs.declared.Pass.the-variants.{Made}
 use Rattle.reduce.proofs.Quiet.{rule-is, tree-is, redex-of}
 use Rattle.runs.specs.Sites.{Site, at-row, at-end, own, Turns, Halted, Tells}
 use Rattle.runs.specs.declared.Tried.{Tried}
 use Rattle.runs.specs.declared.Tried.the-variants as Tried
 use Rattle.runs.specs.Tries.{Trying, Tries, Turning, Going, Stands, Makes}
-use Rattle.runs.proofs.Sites.{isCall, here-rows, here-no-call, here-behind}
+use Rattle.runs.proofs.Sites.{isCall, here-rows, here-no-call, here-zips, here-behind}
 
 -- the types as they are lent
 pub lent-types : (kept : List ℕ) (e : ℕ) → e ≡ 20 + 36 * typeCount kept → 20 + 36 * typeCount kept ≤ length kept → typeTable (take (e - 20) (drop 20 kept)) ≡ typesIn kept
@@ -179,6 +180,9 @@ module _ (form : ℕ → Form) (k : ℕ) (left right frames : List ℕ) (s : Sta
     pub here-uncounted : Goes′ form (rowTable x) → (s .here ≡ true) × ((u : Tree) × (own form k (h .tree) ≡ go none u))
     unfolding become
     here-uncounted (u, e) = (here, (u, own-rule form k (h .tree) (here-no-call _ _ _ _ _ here-site) ∙ ap (λ (y : Tree). become (ruleOf form y)) (sym here-first) ∙ ap become e))
+
+    pub here-zip : treeZips (treeOf (termRows x)) ≡ true → (s .here ≡ true) × ((u : Tree) × (own form k (h .tree) ≡ go none u))
+    here-zip e = (here, here-zips form k _ _ _ _ _ here-site (ap treeZips (sym here-first) ∙ e))
 
     pub here-once : (to : List (List ℕ)) (old new : ℕ) → MadeAtOnce form (rowTable x) to (Made old new) → (u : Tree) × (own form k (h .tree) ≡ go none u) × Turns (s .here) (h .tree) u old new
     unfolding become MadeAtOnce here-uncounted

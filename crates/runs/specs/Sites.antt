@@ -10,7 +10,7 @@ use Rattle.meaning.specs.Types.{Form}
 use Rattle.meaning.specs.Terms.{Head, arity, Tree, Forest, node, flat, size, top}
 use Rattle.meaning.specs.Steps.{Call, Out, stay, go, contract}
 use Rattle.meaning.specs.Entries.{letterOf}
-use Rattle.search.specs.Frames.{waits, Frame, below, around, Open}
+use Rattle.search.specs.Frames.{Rests, Frame, below, around, Open}
 use Rattle.search.specs.Search.{Searching, Room, ahead}
 use Rattle.search.specs.declared.Stand.{Stand}
 use Rattle.runs.specs.declared.Tried.{Tried}
@@ -18,7 +18,7 @@ use Rattle.runs.specs.declared.Tried.the-variants.{Stays, Goes, Sends, U
 
 -- at a row whose own rule is tried, or at the end of a frame whose rule comes last
 pub data Site : Bool → List Frame → List Tree → Tree → List Frame → List Tree → Type 0 where
-  at-row : {Fs : List Frame} {h : Head} {u : ℕ} {f : Forest (arity h)} {ts : List Tree} → Open Fs (node h u f ∷ ts) → waits h f ≡ false → Site true Fs (node h u f ∷ ts) (node h u f) Fs ts
+  at-row : {Fs : List Frame} {h : Head} {u : ℕ} {f : Forest (arity h)} {ts : List Tree} → Open Fs (node h u f ∷ ts) → Rests h f → Site true Fs (node h u f ∷ ts) (node h u f) Fs ts
   at-end : {F : Frame} {Fs : List Frame} {ts : List Tree} → length (F .before) ≡ arity (F .head) → Site false (F ∷ Fs) ts (node (F .head) (F .type) (below F ts)) Fs ts
 
 -- what a tree's own rule does

@@ -9,7 +9,7 @@ use Rattle.meaning.specs.Records.{typesIn}
 use Rattle.layout.specs.Rows.{rowTable}
 use Rattle.reduce.specs.Once.{Goes}
 use Rattle.runs.specs.Sites.{Tells}
-use Rattle.runs.proofs.Tries.{lent-types, here-begins, here-front, here-uncounted, here-stands}
+use Rattle.runs.proofs.Tries.{lent-types, here-begins, here-front, here-uncounted, here-zip, here-stands}
 use Rattle.runs.proofs.Rests.{value-rests, row-there}
 use borrow.Author.Needs.{needs}
 use Rattle.runs.proofs.try_here.Statement.{statement}
@@ -77,5 +77,25 @@ try-here-spec =
     let types = lent-types (args .kept .now) (c .before .before .before .before .types-end .result) (c .before .before .before .before .types-end .ensures) (pre .0) in
     let g = subst (λ (l : List (List ℕ)). Goes (formOf l) (rowTable x)) types (c .before .goes .ensures (c .if3 .taken)) in
     λ left frames k t h. here-uncounted form k left (args .work .now) frames (args .s) t h (pre .2) x (omega (arith, w .3 .ends)) refl g))
+    (λ c. search needs)
+    (λ c. search needs)
+    (λ c. search needs)
+    (λ c. search needs)
+    -- calls-zip-requires
+    (λ c κs.
+    let args = c .before .before .before .before .before .before .before .before .before .before .before .before .before .before .args in
+    let pre = c .before .before .before .before .before .before .before .before .before .before .before .before .before .before .pre in
+    let w = pre .3 in
+    let form = formOf (typesIn (args .kept .now)) in
+    let x = take (length (args .work .now) - 8 * args .s .r) (drop (8 * args .s .r) (args .work .now)) in
+    here-front form (w .2 .number) (w .0) (args .work .now) (w .1) (args .s) (w .2 .whole) (w .2 .halted) (pre .2) x (omega (arith, w .3 .ends)) refl (w .3 .ends) (w .2 .count) (w .2 .in-range) (w .4))
+    -- returns-4
+    (λ c. unfold Tells in (
+    let args = c .before .before .before .before .before .before .before .before .before .before .before .before .before .before .before .before .args in
+    let pre = c .before .before .before .before .before .before .before .before .before .before .before .before .before .before .before .before .pre in
+    let w = pre .3 in
+    let form = formOf (typesIn (args .kept .now)) in
+    let x = take (length (args .work .now) - 8 * args .s .r) (drop (8 * args .s .r) (args .work .now)) in
+    λ left frames k t h. here-zip form k left (args .work .now) frames (args .s) t h (pre .2) x (omega (arith, w .3 .ends)) refl (c .before .calls-zip .ensures (c .if4 .taken))))
     (λ c κs. search needs)
     (λ c. c .try-whole .ensures .0))
