@@ -3,18 +3,18 @@ use Prim.Native.Nat.{ℕ, _+_, _*_, _-_, _/_, _≤_, _<_}
 use mathlib.Core.Path.{_≡_, refl, ap, sym, _∙_}
 use mathlib.Core.Bool.{Bool, true, false, false≢true}
 use mathlib.Core.List.{List, [], _∷_, map}
-use mathlib.Core.Option.{Option, none}
+use mathlib.Core.Option.{Option, none, some}
 use native.Mathlib.Omega.{arith}
 use native.Mathlib.Nat.{mul-sub}
 use borrow.Author.Tests.{leb-true, eq-eqb, ne-eqb, lt-ltb, le-ltb}
 use lib.Dec.{eqb}
-use lib.ListN.{length, getD, take, drop, length-drop, length-map}
+use lib.ListN.{length, getD, take, drop, length-drop, length-map, List·getD-map}
 use lib.Seq.{length-take-le}
 use Rattle.meaning.specs.Bytes.{_∧ᵇ_, Layout, width, zeros, number, read, reads, typeRow, termRow, entryRow, typesAt, callsAt, rowsAt, recordBytes}
 use Rattle.meaning.specs.Types.{Form, formOf, ground, badType, empty}
 use Rattle.meaning.specs.Terms.{tyOf, treeOf, trees, top, rowOf, typeNo, shape}
 use Rattle.meaning.specs.Typing.{firstBad}
-use Rattle.meaning.specs.Records.{Entry, headNo, typeCount, rowCount, openCount, nextNumber, programType, typesIn, entriesIn, rowsIn, entryOf, stateOf, firstNot, nothing, isWhole, headSound, unused, spaceSound, typesSound, shapeSound, termSound, rises, entrySound, callsSound, futureListed, futuresSound, programSound, sound}
+use Rattle.meaning.specs.Records.{Entry, headNo, typeCount, rowCount, openCount, nextNumber, programType, typesIn, entriesIn, rowsIn, entryOf, stateOf, firstNot, nothing, isWhole, headSound, unused, spaceSound, typesSound, shapeSound, termSound, rises, entrySound, callsSound, listed, futureListed, futuresSound, programSound, sound}
 use Rattle.meaning.specs.Entries.{noFuture}
 use Rattle.meaning.specs.declared.Shape.{Shape}
 use Rattle.meaning.specs.declared.Shape.the-variants.{Whole, Bad}
@@ -24,9 +24,11 @@ use Rattle.layout.specs.declared.Limits.{Limits}
 use Rattle.layout.specs.Rows.{board, typeTable, rowTable, termRows}
 use Rattle.layout.proofs.Laws.{read-front, term-row, term-rows-at}
 use Rattle.layout.proofs.Tables.{reads-cut, type-table-cut, row-table-cut}
+use Rattle.open.proofs.Listing.{rises-on, rises-not, rises-out, listed-on, listed-hit, listed-out}
+use Rattle.open.proofs.Stored.{entry-read}
 use Rattle.terms.specs.Tables.{Closed}
 use Rattle.terms.proofs.Scan.{bytes-closed}
-use Rattle.sound.specs.Ready.{Ready, entryTable, othersSound, restSound}
+use Rattle.sound.specs.Ready.{Ready, entryTable, callTable, othersSound, restSound}
 use Rattle.sound.proofs.Laws.{fails, passes, none-to-list}
 
 -- where the parts of a record begin, and how much of each is in use
@@ -125,6 +127,38 @@ entry-at s i h = reads-at entryRow (length s / 8) i s [] h
 pub entry-count : (s : List ℕ) → length (entryTable s) ≡ length s / 8
 entry-count s = length-reads entryRow (length s / 8) s
 
+-- The open calls of a table, from the i-th on ---------------------------------------------------------------------
+
+module _ (s : List ℕ) where
+  call-count : length (callTable s) ≡ length s / 8
+  call-count = length-map (entryTable s) entryOf ∙ entry-count s
+
+  module _ (i x : ℕ) (h : i < length s / 8) (xe : x ≡ number 4 (drop (8 * i) s)) where
+    call-at : (t : ℕ) → t ≡ number 2 (drop (8 * i + 4) s) → getD (callTable s) i (entryOf []) ≡ record { number = x; type = t }
+    call-at t te = List·getD-map entryOf (entryTable s) i [] ∙ ap entryOf (entry-at s i h) ∙ sym (entry-read s (8 * i) (8 * i + 4) x t refl xe te)
+
+    call-there : i < length (callTable s)
+    call-there = omega (arith, call-count)
+
+    pub call-above : (low : ℕ) → low < x → rises low (drop i (callTable s)) ≡ rises x (drop (i + 1) (callTable s))
+    call-above low k = rises-on (callTable s) 0 i _ _ call-there (call-at _ refl) low k
+
+    pub call-below : (low : ℕ) → x ≤ low → rises low (drop i (callTable s)) ≡ false
+    call-below low k = rises-not (callTable s) 0 i _ _ call-there (call-at _ refl) low k
+
+    pub call-other : (k : ℕ) → (x ≡ k → ⊥) → listed (drop i (callTable s)) k ≡ listed (drop (i + 1) (callTable s)) k
+    call-other k n = listed-on (callTable s) k i _ _ call-there (call-at _ refl) n
+
+    pub call-found : (k t : ℕ) → x ≡ k → t ≡ number 2 (drop (8 * i + 4) s) → listed (drop i (callTable s)) k ≡ some t
+    call-found k t e te = listed-hit (callTable s) k i _ _ call-there (call-at t te) e
+
+  module _ (i : ℕ) (h : length s / 8 ≤ i) where
+    pub calls-risen : (low : ℕ) → rises low (drop i (callTable s)) ≡ true
+    calls-risen low = rises-out (callTable s) low i (omega (arith, call-count))
+
+    pub calls-out : (k : ℕ) → listed (drop i (callTable s)) k ≡ none
+    calls-out k = listed-out (callTable s) k i (omega (arith, call-count))
+
 module _ (m : Limits) (b : List ℕ) (z : Sizes m b) where
   -- Unused space -------------------------------------------------------------------------------------------------
 
@@ -172,6 +206,11 @@ module _ (m : Limits) (b : List ℕ) (z : Sizes m b) where
         let k : length (take (p + 8 * n - p) (drop p b)) / 8 ≡ n = omega (arith, length-take-le (p + 8 * n - p) (drop p b) g) in
         rw (k, ← pe, ← e) (reads-cut entryRow n (p + 8 * n - p) (drop p b) (omega arith) g)
 
+    -- the open calls cut from the record
+    pub calls-table : callTable (take (p + 8 * n - p) (drop p b)) ≡ stateOf (board m) b .calls
+    unfolding stateOf
+    calls-table = ap (map entryOf) entries-table
+
   -- The tests ----------------------------------------------------------------------------------------------------
 
   pub types-told : (n v : ℕ) (o : Option ℕ) → n ≡ typeCount b → v ≡ headNo 3 b → o ≡ badType v (typeTable (take (20 + 36 * n - 20) (drop 20 b))) → nothing o ≡ typesSound b
@@ -212,14 +251,15 @@ module _ (m : Limits) (b : List ℕ) (z : Sizes m b) where
   unfolding stateOf entriesIn
   call-total = length-map (reads entryRow (openCount b) (drop (callsAt (board m)) b)) entryOf ∙ length-reads entryRow (openCount b) (drop (callsAt (board m)) b)
 
-  pub calls-fall : rises 0 (stateOf (board m) b .calls) ≡ false → callsSound (board m) b ≡ false
+  pub calls-fall : (p n : ℕ) → p ≡ callsAt (board m) → n ≡ openCount b → rises 0 (callTable (take (p + 8 * n - p) (drop p b))) ≡ false → callsSound (board m) b ≡ false
   unfolding callsSound
-  calls-fall e = fails _ _ e
+  calls-fall p n pe f e = fails _ _ (rw (← calls-table p n pe f) e)
 
-  pub calls-told : (t p n next : ℕ) (a : Bool) → rises 0 (stateOf (board m) b .calls) ≡ true → t ≡ typeCount b → p ≡ callsAt (board m) → n ≡ openCount b → next ≡ nextNumber b
+  pub calls-told : (t p n next : ℕ) (a : Bool) → t ≡ typeCount b → p ≡ callsAt (board m) → n ≡ openCount b → next ≡ nextNumber b
+      → rises 0 (callTable (take (p + 8 * n - p) (drop p b))) ≡ true
       → a ≡ nothing (firstNot (entrySound (formOf (typeTable (take (20 + 36 * t - 20) (drop 20 b)))) next) (entryTable (take (p + 8 * n - p) (drop p b)))) → a ≡ callsSound (board m) b
   unfolding callsSound
-  calls-told t p n next a r e pe f g h = h ∙ rw (types-table t e, entries-table p n pe f, g) refl ∙ sym (passes _ _ r)
+  calls-told t p n next a e pe f g r h = h ∙ rw (types-table t e, entries-table p n pe f, g) refl ∙ sym (passes _ _ (rw (← calls-table p n pe f) r))
 
   pub futures-told : (p n : ℕ) (es : List Entry) (a : Bool) → p ≡ rowsAt (board m) → n ≡ rowCount b → es ≡ stateOf (board m) b .calls
       → a ≡ nothing (firstNot (futureListed es) (rowTable (take (p + 8 * n - p) (drop p b)))) → a ≡ futuresSound (board m) b

@@ -2,11 +2,11 @@
 use Prim.Native.Nat.{ℕ, suc, _≤_, _/_}
 use mathlib.Core.Path.{_≡_}
 use mathlib.Core.Bool.{Bool, true, false}
-use mathlib.Core.List.{List}
+use mathlib.Core.List.{List, map}
 use lib.Dec.{eqb, leb}
 use lib.ListN.{length}
 use Rattle.meaning.specs.Bytes.{Limits as Board, _∧ᵇ_, within, recordBytes, reads, entryRow}
-use Rattle.meaning.specs.Records.{headNo, typeCount, rowCount, openCount, nextNumber, headSound, shapeSound, termSound, callsSound, futuresSound, programSound}
+use Rattle.meaning.specs.Records.{Entry, headNo, typeCount, rowCount, openCount, nextNumber, entryOf, headSound, shapeSound, termSound, callsSound, futuresSound, programSound}
 use Rattle.layout.specs.declared.Limits.{Limits}
 use Rattle.layout.specs.Rows.{board}
 use Rattle.quick.specs.declared.Seen.{Seen}
@@ -31,6 +31,10 @@ pub record ShowsRows (m : Board) (b : List ℕ) (r : Seen) : Type 0 where
 -- the table that lent bytes are: 8 bytes an entry
 abbrev pub entryTable : List ℕ → List (List ℕ)
 entryTable s = reads entryRow (length s / 8) s
+
+-- the open calls that it lists
+abbrev pub callTable : List ℕ → List Entry
+callTable s = map entryOf (entryTable s)
 
 -- headSound behind the mark
 unfoldable pub countsFit : Board → List ℕ → Bool

@@ -3,7 +3,6 @@ use layout::Found;
 use layout::Limits;
 use layout::Row;
 use meaning::Shape;
-use open::Listed;
 use open::OpenList;
 use quick::Seen;
 
@@ -17,10 +16,10 @@ ghost use lib.ListN.{length};
 ghost use Rattle.meaning.specs.Bytes.{zeros, recordBytes};
 ghost use Rattle.meaning.specs.Types.{formOf};
 ghost use Rattle.meaning.specs.Typing.{given};
-ghost use Rattle.meaning.specs.Records.{nothing, firstNot, listed, futureListed, entrySound, stateOf, spaceSound, typesSound, shapeSound, termSound, callsSound, futuresSound, programSound, sound};
+ghost use Rattle.meaning.specs.Records.{nothing, firstNot, rises, listed, futureListed, entrySound, stateOf, spaceSound, typesSound, shapeSound, termSound, callsSound, futuresSound, programSound, sound};
 ghost use Rattle.layout.specs.Rows.{board, typeTable, rowTable};
-ghost use Rattle.open.specs.Open.{Lists, opened};
-ghost use Rattle.sound.specs.Ready.{Roomy, Ready, ShowsRows, entryTable, othersSound, restSound};
+ghost use Rattle.open.specs.Open.{Lists};
+ghost use Rattle.sound.specs.Ready.{Roomy, Ready, ShowsRows, entryTable, callTable, othersSound, restSound};
 
 // The greater of two bytes.
 fn greater(a: u8, b: u8) -> u8
@@ -75,29 +74,50 @@ fn all_zero(bytes: &[u8]) -> bool
     )
 }
 
-// A future's number is open under the type that the future states.
-fn is_listed(list: OpenList, r: Row) -> bool
-    requires { ⌜ list .count ≤ 64 ⌝ }
-    ensures { λ b. ⌜ b ≡ given (listed (opened list) (r .word)) (r .ty) ⌝ }
+// Each open number is above the one before it, the first above 0.
+fn rising(calls: &[u8]) -> bool
+    ensures { λ b. ⌜ b ≡ rises 0 (callTable (now (calls .entry))) ⌝ }
 {
-    let l = list.find(r.word);
-    match l {
-        Listed::Under(t) => t == r.ty,
-        Listed::Nothing => false,
+    let all = calls.len() / layout::ENTRY_ROW;
+    let mut low: u32 = 0;
+    let mut i = 0;
+    while i < all {
+        let number = layout::u32_at(calls, layout::ENTRY_ROW * i);
+        if number <= low {
+            return false;
+        }
+        low = number;
+        i += 1;
     }
+    true
+}
+
+// A future's number is open under the type that the future states.
+fn is_listed(calls: &[u8], r: Row) -> bool
+    ensures { λ b. ⌜ b ≡ given (listed (callTable (now (calls .entry))) (r .word)) (r .ty) ⌝ }
+{
+    let all = calls.len() / layout::ENTRY_ROW;
+    let mut i = 0;
+    while i < all {
+        let at = layout::ENTRY_ROW * i;
+        if layout::u32_at(calls, at) == r.word {
+            return layout::u16_at(calls, at + layout::ENTRY_TYPE_AT) == r.ty;
+        }
+        i += 1;
+    }
+    false
 }
 
 // Each future among the rows is listed with its type.
-fn futures_listed(rows: &[u8], list: OpenList) -> bool
-    requires { ⌜ list .count ≤ 64 ⌝ }
-    ensures { λ b. ⌜ b ≡ nothing (firstNot (futureListed (opened list)) (rowTable (now (rows .entry)))) ⌝ }
+fn futures_listed(rows: &[u8], calls: &[u8]) -> bool
+    ensures { λ b. ⌜ b ≡ nothing (firstNot (futureListed (callTable (now (calls .entry)))) (rowTable (now (rows .entry)))) ⌝ }
 {
     let all = layout::term_rows(rows);
     let mut i = 0;
     while i < all {
         let r = layout::row_at(rows, i);
         if r.kind == 9 {
-            if !is_listed(list, r) {
+            if !is_listed(calls, r) {
                 return false;
             }
             i += 1;
@@ -235,13 +255,12 @@ fn calls_sound(kept: &[u8], m: Limits) -> bool
     requires { ⌜ Ready m (now kept) ⌝ }
     ensures { λ b. ⌜ b ≡ callsSound (board m) (now (kept .entry)) ⌝ }
 {
-    let list = open_list(kept, m);
-    if !list.rising() {
+    let at = layout::calls_at(m);
+    let end = at + layout::ENTRY_ROW * head::open_count(kept) as usize;
+    if !rising(&kept[at..end]) {
         return false;
     }
     let types_end = layout::RECORD_HEAD + layout::TYPE_ROW * head::type_count(kept) as usize;
-    let at = layout::calls_at(m);
-    let end = at + layout::ENTRY_ROW * head::open_count(kept) as usize;
     entries_sound(
         &kept[layout::RECORD_HEAD..types_end],
         &kept[at..end],
@@ -257,10 +276,11 @@ fn futures_sound(kept: &[u8], m: Limits, future: bool) -> bool
     if !future {
         return true;
     }
-    let list = open_list(kept, m);
-    let at = layout::rows_at(m);
-    let end = at + layout::TERM_ROW * head::row_count(kept) as usize;
-    futures_listed(&kept[at..end], list)
+    let calls = layout::calls_at(m);
+    let calls_end = calls + layout::ENTRY_ROW * head::open_count(kept) as usize;
+    let rows = layout::rows_at(m);
+    let rows_end = rows + layout::TERM_ROW * head::row_count(kept) as usize;
+    futures_listed(&kept[rows..rows_end], &kept[calls..calls_end])
 }
 
 // "the first row has the program type"

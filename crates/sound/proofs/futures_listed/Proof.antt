@@ -6,7 +6,7 @@ use native.Mathlib.Omega.{arith}
 use borrow.Author.Tests.{not-true, not-false}
 use lib.ListN.{drop}
 use Rattle.sound.proofs.Laws.{every-on, every-not, every-end, other-kind, a-future}
-use Rattle.open.specs.Open.{opened}
+use Rattle.sound.specs.Ready.{callTable}
 use Rattle.meaning.specs.Records.{nothing, firstNot, futureListed}
 use Rattle.layout.specs.Rows.{rowTable}
 use Rattle.layout.proofs.Tables.{row-table-length, row-table-at}
@@ -15,10 +15,10 @@ use Rattle.sound.proofs.futures_listed.Statement.{statement}
 use Rattle.sound.proofs.futures_listed.Tie as tie
 
 abbrev Inv-loop : tie.InvT-loop
-Inv-loop rows list all i₀ i = (i ≤ all) × (nothing (firstNot (futureListed (opened list)) (drop i (rowTable rows))) ≡ nothing (firstNot (futureListed (opened list)) (rowTable rows)))
+Inv-loop rows calls all i₀ i = (i ≤ all) × (nothing (firstNot (futureListed (callTable calls)) (drop i (rowTable rows))) ≡ nothing (firstNot (futureListed (callTable calls)) (rowTable rows)))
 
 abbrev μ-loop : tie.MeasureT-loop
-μ-loop rows list all i₀ i = all - i
+μ-loop rows calls all i₀ i = all - i
 
 pub futures-listed-spec : {M : Type 1} → statement M
 futures-listed-spec =
@@ -34,18 +34,18 @@ futures-listed-spec =
     -- is-listed-requires
     (λ c κs. search needs)
     -- returns
-    (λ c. let z = row-table-length (c .before .before .before .before .before .before .before .before .before .args .rows .now) in sym (every-not (futureListed (opened (c .before .before .before .before .before .before .before .before .before .args .list))) (rowTable (c .before .before .before .before .before .before .before .before .before .args .rows .now)) (c .before .before .before .before .before .before .loop .i) [] _ (omega (arith, c .before .before .before .before .before .before .before .term-rows .ensures)) (row-table-at (c .before .before .before .before .before .before .before .before .before .args .rows .now) (c .before .before .before .before .before .before .loop .i) [] (omega arith) ∙ sym (c .before .before .before .before .row-at .ensures)) (a-future _ _ (c .before .before .if1 .taken) ∙ sym (c .before .is-listed .ensures) ∙ not-true _ (c .if2 .taken))) ∙ c .before .before .before .before .before .before .loop .inv .1)
+    (λ c. let a = c .before .before .before .before .before .before .before .before .before .before .args in let l = c .before .before .before .before .before .before .loop in let z = row-table-length (a .rows .now) in sym (every-not (futureListed (callTable (a .calls .now))) (rowTable (a .rows .now)) (l .i) [] _ (omega (arith, c .before .before .before .before .before .before .before .term-rows .ensures)) (row-table-at (a .rows .now) (l .i) [] (omega arith) ∙ sym (c .before .before .before .before .row-at .ensures)) (a-future _ _ (c .before .before .if1 .taken) ∙ sym (c .before .is-listed .ensures) ∙ not-true _ (c .if2 .taken))) ∙ l .inv .1)
     -- add-i
     (λ c. omega arith)
     -- loop-less
     (λ c. omega arith)
     -- loop-again
-    (λ c. let z = row-table-length (c .before .before .before .before .before .before .before .before .before .args .rows .now) in (omega arith, sym (every-on (futureListed (opened (c .before .before .before .before .before .before .before .before .before .args .list))) (rowTable (c .before .before .before .before .before .before .before .before .before .args .rows .now)) (c .before .before .before .before .before .before .loop .i) [] _ (omega (arith, c .before .before .before .before .before .before .before .term-rows .ensures)) (row-table-at (c .before .before .before .before .before .before .before .before .before .args .rows .now) (c .before .before .before .before .before .before .loop .i) [] (omega arith) ∙ sym (c .before .before .before .before .row-at .ensures)) (a-future _ _ (c .before .before .if1 .taken) ∙ sym (c .before .is-listed .ensures) ∙ not-false _ (c .if2 .left))) ∙ c .before .before .before .before .before .before .loop .inv .1))
+    (λ c. let a = c .before .before .before .before .before .before .before .before .before .before .args in let l = c .before .before .before .before .before .before .loop in let z = row-table-length (a .rows .now) in (omega arith, sym (every-on (futureListed (callTable (a .calls .now))) (rowTable (a .rows .now)) (l .i) [] _ (omega (arith, c .before .before .before .before .before .before .before .term-rows .ensures)) (row-table-at (a .rows .now) (l .i) [] (omega arith) ∙ sym (c .before .before .before .before .row-at .ensures)) (a-future _ _ (c .before .before .if1 .taken) ∙ sym (c .before .is-listed .ensures) ∙ not-false _ (c .if2 .left))) ∙ l .inv .1))
     -- add-i-2
     (λ c. omega arith)
     -- loop-less-2
     (λ c. omega arith)
     -- loop-again-2
-    (λ c. let z = row-table-length (c .before .before .before .before .before .before .before .args .rows .now) in (omega arith, sym (every-on (futureListed (opened (c .before .before .before .before .before .before .before .args .list))) (rowTable (c .before .before .before .before .before .before .before .args .rows .now)) (c .before .before .before .before .loop .i) [] _ (omega (arith, c .before .before .before .before .before .term-rows .ensures)) (row-table-at (c .before .before .before .before .before .before .before .args .rows .now) (c .before .before .before .before .loop .i) [] (omega arith) ∙ sym (c .before .before .row-at .ensures)) (other-kind _ _ (c .if1 .left))) ∙ c .before .before .before .before .loop .inv .1))
+    (λ c. let a = c .before .before .before .before .before .before .before .before .args in let l = c .before .before .before .before .loop in let z = row-table-length (a .rows .now) in (omega arith, sym (every-on (futureListed (callTable (a .calls .now))) (rowTable (a .rows .now)) (l .i) [] _ (omega (arith, c .before .before .before .before .before .term-rows .ensures)) (row-table-at (a .rows .now) (l .i) [] (omega arith) ∙ sym (c .before .before .row-at .ensures)) (other-kind _ _ (c .if1 .left))) ∙ l .inv .1))
     -- returns-2
-    (λ c. let z = row-table-length (c .before .before .before .before .args .rows .now) in sym (every-end (futureListed (opened (c .before .before .before .before .args .list))) (rowTable (c .before .before .before .before .args .rows .now)) (c .before .loop .i) (omega (arith, c .before .before .term-rows .ensures))) ∙ c .before .loop .inv .1))
+    (λ c. let a = c .before .before .before .before .before .args in let l = c .before .loop in let z = row-table-length (a .rows .now) in sym (every-end (futureListed (callTable (a .calls .now))) (rowTable (a .rows .now)) (l .i) (omega (arith, c .before .before .term-rows .ensures))) ∙ l .inv .1))

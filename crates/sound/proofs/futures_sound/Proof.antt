@@ -1,9 +1,8 @@
--- `sound::futures_sound` meets its contract: the rows cut are the record's. Assumes nothing.
+-- `sound::futures_sound` meets its contract: the rows and the calls cut are the record's. Assumes nothing.
 use mathlib.Core.Path.{sym}
 use borrow.Author.Tests.{not-true}
 use native.Mathlib.Omega.{arith}
-use Rattle.meaning.specs.Records.{nothing}
-use Rattle.sound.proofs.Parts.{sizes, call-total, futures-told}
+use Rattle.sound.proofs.Parts.{sizes, calls-table, futures-told}
 use borrow.Author.Needs.{needs}
 use Rattle.sound.proofs.futures_sound.Statement.{statement}
 use Rattle.sound.proofs.futures_sound.Tie as tie
@@ -14,20 +13,28 @@ futures-sound-spec =
     (tie.spec
     -- returns
     (λ c. sym (c .before .before .pre .1 (not-true _ (c .if1 .taken))))
-    -- open-list-requires
-    (λ c κs. c .before .before .pre .0)
+    (λ c κs. search needs)
+    -- open-count-requires
+    (λ c κs. let s = c .before .before .before in let z = sizes (s .args .m) (s .args .kept .now) (s .pre .0) in omega (arith))
+    (λ c. search needs)
+    (λ c. search needs)
+    -- add-calls-end
+    (λ c. let s = c .before .before .before .before in let z = sizes (s .args .m) (s .args .kept .now) (s .pre .0) in omega (arith, c .before .calls-at .ensures))
     (λ c κs. search needs)
     -- row-count-requires
-    (λ c κs. let z = sizes (c .before .before .before .before .args .m) (c .before .before .before .before .args .kept .now) (c .before .before .before .before .pre .0) in omega (arith))
+    (λ c κs. let s = c .before .before .before .before .before in let z = sizes (s .args .m) (s .args .kept .now) (s .pre .0) in omega (arith))
     (λ c. search needs)
     (λ c. search needs)
-    -- add-end
-    (λ c. let z = sizes (c .before .before .before .before .before .args .m) (c .before .before .before .before .before .args .kept .now) (c .before .before .before .before .before .pre .0) in omega (arith, c .before .rows-at .ensures))
+    -- add-rows-end
+    (λ c. let s = c .before .before .before .before .before .before in let z = sizes (s .args .m) (s .args .kept .now) (s .pre .0) in omega (arith, c .before .rows-at .ensures))
     (λ c. search needs)
     (λ c. search needs)
     -- part-futures-listed-end
-    (λ c. let z = sizes (c .before .before .before .before .before .args .m) (c .before .before .before .before .before .args .kept .now) (c .before .before .before .before .before .pre .0) in omega (arith, c .before .rows-at .ensures, c .row-count .ensures))
-    -- futures-listed-requires
-    (λ c κs. let z = sizes (c .before .before .before .before .before .before .args .m) (c .before .before .before .before .before .before .args .kept .now) (c .before .before .before .before .before .before .pre .0) in omega (arith, c .before .before .before .open-list .ensures .count, call-total (c .before .before .before .before .before .before .args .m) (c .before .before .before .before .before .before .args .kept .now) z))
+    (λ c. let s = c .before .before .before .before .before .before in let z = sizes (s .args .m) (s .args .kept .now) (s .pre .0) in omega (arith, c .before .rows-at .ensures, c .row-count .ensures))
+    (λ c. search needs)
+    (λ c. search needs)
+    -- part-futures-listed-end-2
+    (λ c. let s = c .before .before .before .before .before .before .before in let z = sizes (s .args .m) (s .args .kept .now) (s .pre .0) in omega (arith, c .before .before .before .before .calls-at .ensures, c .before .before .before .open-count .ensures))
+    (λ c κs. search needs)
     -- returns-2
-    (λ c. let z = sizes (c .before .before .before .before .before .before .before .args .m) (c .before .before .before .before .before .before .before .args .kept .now) (c .before .before .before .before .before .before .before .pre .0) in futures-told (c .before .before .before .before .before .before .before .args .m) (c .before .before .before .before .before .before .before .args .kept .now) z _ _ _ _ (c .before .before .before .rows-at .ensures) (c .before .before .row-count .ensures) (c .before .before .before .before .open-list .ensures .entries) (c .futures-listed .ensures)))
+    (λ c. let s = c .before .before .before .before .before .before .before .before .before in let z = sizes (s .args .m) (s .args .kept .now) (s .pre .0) in futures-told (s .args .m) (s .args .kept .now) z _ _ _ _ (c .before .before .before .before .rows-at .ensures) (c .before .before .before .row-count .ensures) (calls-table (s .args .m) (s .args .kept .now) z _ _ (c .before .before .before .before .before .before .calls-at .ensures) (c .before .before .before .before .before .open-count .ensures)) (c .futures-listed .ensures)))
