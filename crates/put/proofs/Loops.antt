@@ -46,6 +46,11 @@ pub record Going (form : ℕ → Form) (l : List (List ℕ)) (body : ℕ) (names
   pub counted : w + length (left form l names bounds masks owed i) ≡ length (putRows form l body names bounds)
   pub few : w ≤ 2048 * i
 
+-- and a loop that writes: the rows written and those left to write are all
+pub record Writing (form : ℕ → Form) (l : List (List ℕ)) (body : ℕ) (names bounds : List ℕ) (to : List (List ℕ)) (masks : List ℕ) (owed i w : ℕ) : Type 0 where
+  pub going : Going form l body names bounds masks owed i w
+  pub rows : take w to ++ left form l names bounds masks owed i ≡ putRows form l body names bounds
+
 module _ {l : List (List ℕ)} {body : ℕ} {names bounds : List ℕ} (ready : Ready l body names bounds) where
   abbrev L : List Row
   L = map rowOf l
@@ -76,6 +81,9 @@ module _ {l : List (List ℕ)} {body : ℕ} {names bounds : List ℕ} (ready : R
   unfolding putRows below
   written-start form masks d z = rw z refl
 
+  pub writing-start : (form : ℕ → Form) (masks : List ℕ) (d : List (List ℕ)) → length masks ≡ 2048 → getD masks 0 0 ≡ 0 → Writing form l body names bounds d masks 1 body 0
+  writing-start form masks d k z = record { going = going-start form masks k z; rows = written-start form masks d z }
+
   module _ {form : ℕ → Form} {masks : List ℕ} {owed i w : ℕ} (go : Going form l body names bounds masks owed i w) where
     pub none-left : owed ≡ 0 → left form l names bounds masks owed i ≡ []
     unfolding below
@@ -84,11 +92,18 @@ module _ {l : List (List ℕ)} {body : ℕ} {names bounds : List ℕ} (ready : R
     pub going-end : owed ≡ 0 → w ≡ length (putRows form l body names bounds)
     going-end z = omega (arith, go .counted, ap length (none-left z))
 
+    -- the row behind the body
+    pub going-behind : owed ≡ 0 → i ≡ body + size (treeAt L body)
+    going-behind z = omega (arith, go .ends, ap (λ (n : ℕ). sizes (grove L i n)) z ∙ grove-none L i)
+
     -- the rows written before the trees still owed; at the end all of them
+    pub written-all : (d : List (List ℕ)) → owed ≡ 0 → take w d ++ left form l names bounds masks owed i ≡ putRows form l body names bounds → take w d ≡ putRows form l body names bounds
+    written-all d z e = sym (append-nil (take w d)) ∙ ap (λ (x : List (List ℕ)). take w d ++ x) (sym (none-left z)) ∙ e
+
+    -- in a table of just as many
     pub written-end : (d : List (List ℕ)) → owed ≡ 0 → length d ≡ length (putRows form l body names bounds) → take w d ++ left form l names bounds masks owed i ≡ putRows form l body names bounds
         → d ≡ putRows form l body names bounds
-    written-end d z k e =
-        sym (take-all w d (omega (arith, going-end z))) ∙ sym (append-nil (take w d)) ∙ ap (λ (x : List (List ℕ)). take w d ++ x) (sym (none-left z)) ∙ e
+    written-end d z k e = sym (take-all w d (omega (arith, going-end z))) ∙ written-all d z e
 
     module _ (some-owed : 0 < owed) where
       positive : owed ≡ 0 → ⊥
@@ -144,9 +159,9 @@ module _ {l : List (List ℕ)} {body : ℕ} {names bounds : List ℕ} (ready : R
           going-fits = omega (arith, go .counted, turned-length)
 
           -- the rows copied
-          pub written-next : (x y : List (List ℕ)) → w + (t - f) ≤ length x → y ≡ take w x ++ (take (t - f) (drop f l) ++ drop (w + (t - f)) x) → take w x ++ left form l names bounds masks owed i ≡ putRows form l body names bounds
-              → take (w + (t - f)) y ++ left form l names bounds masks′ owed′ (i + 1) ≡ putRows form l body names bounds
-          written-next x y h q e =
+          pub writing-next : (x y : List (List ℕ)) → w + (t - f) ≤ length x → y ≡ take w x ++ (take (t - f) (drop f l) ++ drop (w + (t - f)) x) → take w x ++ left form l names bounds masks owed i ≡ putRows form l body names bounds
+              → Writing form l body names bounds y masks′ owed′ (i + 1) (w + (t - f))
+          writing-next x y h q e =
               let A = take w x in
               let B = standing l f t in
               let C = drop (w + (t - f)) x in
@@ -154,7 +169,10 @@ module _ {l : List (List ℕ)} {body : ℕ} {names bounds : List ℕ} (ready : R
               let la : length A ≡ w = length-take-le w x (omega arith) in
               let lab : length (A ++ B) ≡ w + (t - f) = length-append A B ∙ omega (arith, la, lb) in
               let p : take (w + (t - f)) y ≡ A ++ B = ap (take (w + (t - f))) (q ∙ sym (append-assoc A B C)) ∙ take-at (A ++ B) C (w + (t - f)) lab in
-              ap (λ (z : List (List ℕ)). z ++ left form l names bounds masks′ owed′ (i + 1)) p
-              ∙ append-assoc A B (left form l names bounds masks′ owed′ (i + 1))
-              ∙ ap (λ (z : List (List ℕ)). A ++ z) (sym turned)
-              ∙ e
+              record {
+                going = going-next;
+                rows = ap (λ (z : List (List ℕ)). z ++ left form l names bounds masks′ owed′ (i + 1)) p
+                    ∙ append-assoc A B (left form l names bounds masks′ owed′ (i + 1))
+                    ∙ ap (λ (z : List (List ℕ)). A ++ z) (sym turned)
+                    ∙ e;
+              }

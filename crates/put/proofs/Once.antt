@@ -2,7 +2,7 @@
 use Prim.Native.Nat.{ℕ, zero, suc, _+_, _-_, _%_, _≤_, _<_}
 use mathlib.Core.Path.{_≡_, refl, ap, sym, _∙_, subst}
 use mathlib.Core.Bool.{Bool, true, false, cond}
-use mathlib.Core.List.{List, [], _∷_, _++_, map, append-assoc, append-nil, map-append}
+use mathlib.Core.List.{List, [], _∷_, _++_, map, append-assoc, map-append}
 use mathlib.Core.Option.{Option, none, some}
 use native.Mathlib.Omega.{arith}
 use native.Mathlib.Decide.{decLt, ℕ-discrete}
@@ -15,7 +15,7 @@ use Rattle.meaning.specs.Terms.{Head, arity, code, wordOf, headFrom, Tree, Fore
 use Rattle.meaning.proofs.Trees.Parse.{tree-row}
 use Rattle.rules.specs.Forms.{says, forms}
 use Rattle.rules.proofs.ByRule.{params-few, params-high, params-all}
-use Rattle.terms.proofs.Scan.{grove-none, grove-size}
+use Rattle.terms.proofs.Scan.{grove-size}
 use Rattle.put.specs.Put.{next, pick, told, mark, fan, atPlace, binds, rowsFor, inner, after, chosen, run, standing, below, argRows, putRows, Bare, Ready, Among, Widens, Within, Shut, Turns, Exact}
 use Rattle.put.specs.declared.Range.{Range}
 use Rattle.put.specs.declared.Turn.{Turn}
@@ -23,7 +23,7 @@ use Rattle.put.specs.declared.Turn.the-variants.{Stands, Whole, Puts}
 use Rattle.put.proofs.Turning.{binds-fun, chosen-var, chosen-none, span-at, span-own, below-on}
 use Rattle.put.proofs.Passing.{mark-picks, at-row}
 use Rattle.put.proofs.Meets.{stands}
-use Rattle.put.proofs.Loops.{Going, left, row-any, standing-length, going-start, going-end, going-in, copied-span, going-next, written-start, turned, none-left}
+use Rattle.put.proofs.Loops.{Going, left, row-any, standing-length, going-start, going-end, going-behind, going-in, copied-span, going-next, written-start, written-all, turned}
 use Rattle.put.proofs.Bare.{unhidden, none-hidden, bare-other, bare-let, bare-descends, first-bare, end-bare, standing-join, standing-none, piece-written, pending-next}
 
 -- The names of a function ------------------------------------------------------------------------------------------
@@ -205,15 +205,12 @@ module _ {l : List (List ℕ)} {body : ℕ} {names bounds : List ℕ} (ready : R
   module _ {form : ℕ → Form} {to : List (List ℕ)} {owed i from w : ℕ} (o : Onward form l body names bounds to owed i from w) where
     -- at the end
     pub onward-end : owed ≡ 0 → (i ≡ body + size (treeAt (map rowOf l) body)) × (w + (i - from) ≡ length (putRows form l body names bounds))
-    onward-end z =
-        let e = o .going .ends in
-        let s : sizes (grove (map rowOf l) i owed) ≡ 0 = ap (λ (n : ℕ). sizes (grove (map rowOf l) i n)) z ∙ grove-none (map rowOf l) i in
-        (omega (arith, e, s), going-end ready (o .going) z)
+    onward-end z = (going-behind ready (o .going) z, going-end ready (o .going) z)
 
     pub onward-last : owed ≡ 0 → (y : List (List ℕ)) → w + (i - from) ≤ length to → i ≤ length l → y ≡ take w to ++ (standing l from i ++ drop (w + (i - from)) to) → take (w + (i - from)) y ≡ putRows form l body names bounds
     onward-last z y h k e =
         let p = piece-written to y (standing l from i) (left form l names bounds unhidden owed i) (putRows form l body names bounds) w (i - from) (standing-length l from i (o .behind) k) h e (o .rows) in
-        sym (append-nil (take (w + (i - from)) y)) ∙ ap (λ (x : List (List ℕ)). take (w + (i - from)) y ++ x) (sym (none-left ready (o .going) z)) ∙ p
+        written-all ready (o .going) y z p
 
     module _ (some-owed : 0 < owed) where
       pub onward-in : (i < length l) × (owed ≤ 2048)

@@ -537,8 +537,41 @@ pub enum Pass {
     Unknown,
 }
 
-// The rows of the body at a row with the arguments put, in one pass, into a table that may have more room. Rows that stand side by side are copied
-// at once. It knows nothing where there is no room, or where a row hides some of the names. This one goes row by row.
+// The rows of the body at a row with the arguments put, in one pass, into a table that may have more room. It knows nothing where there is no room.
+// This one goes row by row, by a mask for each tree owed: for names of which some are hidden and others are not.
+fn put_masked(
+    types: &[u8],
+    rows: &[u8],
+    body: usize,
+    names: &[u16],
+    bounds: &[u16],
+    to: &mut [u8],
+) -> Pass
+    requires { ⌜ Ready (rowTable (now rows)) body (now names) (now bounds) × Exact (rowTable (now rows)) × (length (now to) ≤ 32768) ⌝ }
+    ensures { λ p. ⌜ Passes (formOf (typeTable (now (types .entry)))) (rowTable (now (rows .entry))) body (now (names .entry)) (now (bounds .entry)) (rowTable (now (to .exit))) p ⌝ }
+{
+    let room = layout::term_rows(to);
+    let mut masks = [0u8; 2048];
+    let mut owed: usize = 1;
+    let mut i = body;
+    let mut w: usize = 0;
+    while 0 < owed {
+        let r = layout::row_at(rows, i);
+        let s = spot(names, bounds, masks[owed - 1], r, i);
+        owed = descend(types, names, r, &mut masks, owed);
+        let n = s.to - s.from;
+        if room < w + n {
+            return Pass::Unknown;
+        }
+        copy_rows(to, w, rows, s.from, n);
+        w += n;
+        i += 1;
+    }
+    Pass::Made(i, w)
+}
+
+// The same with no mask, as long as each row hides none of the names or is a function that hides all: rows that stand side by side are copied at once.
+// At another row it begins again with masks. This one goes row by row.
 fn put_near(
     types: &[u8],
     rows: &[u8],
@@ -587,7 +620,7 @@ fn put_near(
                     from = i;
                 }
                 Turn::Mixed => {
-                    return Pass::Unknown;
+                    return put_masked(types, rows, body, names, bounds, to);
                 }
             }
         } else {
@@ -671,7 +704,7 @@ fn put_far(
                 );
             }
             Turn::Mixed => {
-                return Pass::Unknown;
+                return put_masked(types, rows, body, names, bounds, to);
             }
         }
     }

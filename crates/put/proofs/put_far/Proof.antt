@@ -283,9 +283,12 @@ put-far-spec =
     let o = onward-puts p v h g (t .0) d j ch ef et _ _ refl (omega (arith, c .before .before .before .before .before .if2 .left, c .before .before .before .before .before .before .before .before .before .before .before .before .before .before .before .before .term-rows .ensures, l .inv .1, row-table-length (l .to))) (c .before .before .before .copy-both .ensures) in
     (onward-skips p (c .before .before .before .before .before .before .before .before .before .before .before .before .before .before .before .range-of .ensures) (c .skip4 .ensures) o, c .before .before .before .copy-both .kept .0 ∙ l .inv .1))
     (λ c. search needs)
+    -- put-masked-requires
+    (λ c κs. let p = c .before .before .before .before .before .before .before .before .before .before .before .before .before .before .before .before .before .pre in (p .0, p .1, omega (arith, p .2, c .before .before .before .before .before .before .before .loop .inv .1)))
     -- same-length-2
-    (λ c. c .before .before .before .before .before .before .loop .inv .1)
-    (λ c. unfold Passes in tt)
+    (λ c. c .before .before .put-masked .kept .1 .1 .1 .1 .1 .0 ∙ c .before .before .before .before .before .before .before .before .before .before .loop .inv .1)
+    -- returns-2
+    (λ c. c .before .before .put-masked .ensures)
     -- sub-n-3
     (λ c. omega (arith, c .before .before .loop .inv .0 .behind))
     -- add-if3
@@ -307,7 +310,7 @@ put-far-spec =
     let v = l .inv .0 in
     let e = onward-end p v (omega arith) in
     (omega (arith, c .before .if3 .left, c .before .before .before .before .before .before .before .term-rows .ensures, l .inv .1, row-table-length (l .to)), omega (arith, v .behind, e .0, p .whole, row-table-length (a .rows .now))))
-    -- add-t42
+    -- add-t44
     (λ c.
     let a = c .before .before .before .before .before .before .before .before .before .before .before .before .before .before .before .before .before .args in
     let p = c .before .before .before .before .before .before .before .before .before .before .before .before .before .before .before .before .before .pre .0 in

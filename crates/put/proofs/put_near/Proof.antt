@@ -241,9 +241,12 @@ put-near-spec =
     let cb = c .before .before .before .copy-both in
     (onward-puts p v (omega arith) g (t .0) (ap (λ (x : ℕ). l .owed - 1 + x) (c .children2 .ensures .0)) j ch ef et _ _ refl (omega (arith, c .before .before .before .before .before .if2 .left, c .before .before .before .before .before .before .before .before .before .before .before .before .before .before .before .before .term-rows .ensures, l .inv .1, row-table-length (l .to))) (cb .ensures), cb .kept .0 ∙ l .inv .1))
     (λ c. search needs)
+    -- put-masked-requires
+    (λ c κs. let p = c .before .before .before .before .before .before .before .before .before .before .before .before .before .before .before .before .before .pre in (p .0, p .1, omega (arith, p .2, c .before .before .before .before .before .before .before .before .loop .inv .1)))
     -- same-length-2
-    (λ c. c .before .before .before .before .before .before .before .loop .inv .1)
-    (λ c. unfold Passes in tt)
+    (λ c. c .before .before .put-masked .kept .1 .1 .1 .1 .1 .0 ∙ c .before .before .before .before .before .before .before .before .before .before .before .loop .inv .1)
+    -- returns-2
+    (λ c. c .before .before .put-masked .ensures)
     (λ c. omega arith)
     (λ c κs. search needs)
     -- add-owed-3
@@ -303,7 +306,7 @@ put-near-spec =
     let v = l .inv .0 in
     let e = onward-end p v (omega arith) in
     (omega (arith, c .before .if3 .left, c .before .before .before .before .before .term-rows .ensures, l .inv .1, row-table-length (l .to)), omega (arith, v .behind, e .0, p .whole, row-table-length (a .rows .now))))
-    -- add-t35
+    -- add-t37
     (λ c.
     let a = c .before .before .before .before .before .before .before .before .before .before .before .before .before .before .before .args in
     let p = c .before .before .before .before .before .before .before .before .before .before .before .before .before .before .before .pre .0 in

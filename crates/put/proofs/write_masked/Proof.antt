@@ -1,22 +1,19 @@
 -- The loop's invariant: the rows written and those left to write are all.
 use mathlib.Core.Path.{_≡_, refl, sym, _∙_}
-use mathlib.Core.List.{_++_}
-use Prim.Native.Nat.{ℕ, _+_, _-_}
+use Prim.Native.Nat.{ℕ, _-_}
 use native.Mathlib.Omega.{arith}
-use lib.ListN.{length, take, length-replicate}
+use lib.ListN.{length, length-replicate}
 use Rattle.layout.specs.Rows.{typeTable, rowTable}
 use Rattle.layout.proofs.Tables.{row-table-length}
 use Rattle.meaning.specs.Types.{formOf}
-use Rattle.put.specs.Put.{putRows}
 use Rattle.put.proofs.Rows.{row-read, row-in}
-use Rattle.put.proofs.Loops.{Going, left, going-start, written-start, written-end, going-in, going-room, copied-span, going-next, going-fits, written-next}
+use Rattle.put.proofs.Loops.{Writing, writing-start, written-end, going-in, going-room, copied-span, going-next, going-fits, writing-next}
 use Rattle.put.proofs.write_masked.Statement.{statement}
 use Rattle.put.proofs.write_masked.Tie as tie
 
 abbrev Inv-loop : tie.InvT-loop
 Inv-loop types rows body names bounds to₀ masks₀ owed₀ i₀ w₀ to masks owed i w =
-    Going (formOf (typeTable types)) (rowTable rows) body names bounds masks owed i w × (length to ≡ length to₀)
-    × (take w (rowTable to) ++ left (formOf (typeTable types)) (rowTable rows) names bounds masks owed i ≡ putRows (formOf (typeTable types)) (rowTable rows) body names bounds)
+    Writing (formOf (typeTable types)) (rowTable rows) body names bounds (rowTable to) masks owed i w × (length to ≡ length to₀)
 
 abbrev μ-loop : tie.MeasureT-loop
 μ-loop types rows body names bounds to₀ masks₀ owed₀ i₀ w₀ to masks owed i w = length (rowTable rows) - i
@@ -24,18 +21,15 @@ abbrev μ-loop : tie.MeasureT-loop
 loop-holds : tie.Need-loop-holds Inv-loop μ-loop
 loop-holds c =
     let a = c .before .before .before .before .before .args in
-    let p = c .before .before .before .before .before .pre .0 in (
-      going-start p (formOf (typeTable (a .types .now))) _ (length-replicate {A = ℕ} 2048 0) refl,
-      refl,
-      written-start p (formOf (typeTable (a .types .now))) _ (rowTable (a .to .now)) refl,
-    )
+    let p = c .before .before .before .before .before .pre .0 in
+    (writing-start p (formOf (typeTable (a .types .now))) _ (rowTable (a .to .now)) (length-replicate {A = ℕ} 2048 0) refl, refl)
 
 row-at-requires : tie.Need-row-at-requires Inv-loop μ-loop
 row-at-requires c κs =
     let a = c .before .before .before .before .before .before .before .args in
     let p = c .before .before .before .before .before .before .before .pre .0 in
     let l = c .before .loop in
-    let k = going-in p (l .inv .0) (omega arith) in
+    let k = going-in p (l .inv .0 .going) (omega arith) in
     row-in (a .rows .now) (l .i) (k .0)
 
 sub-spot : tie.Need-sub-spot Inv-loop μ-loop
@@ -46,47 +40,47 @@ array-read-spot c =
     let a = c .before .before .before .before .before .before .before .before .args in
     let p = c .before .before .before .before .before .before .before .before .pre .0 in
     let l = c .before .before .loop in
-    let k = going-in p (l .inv .0) (omega arith) in
-    omega (arith, k .1, l .inv .0 .long)
+    let k = going-in p (l .inv .0 .going) (omega arith) in
+    omega (arith, k .1, l .inv .0 .going .long)
 
 spot-requires : tie.Need-spot-requires Inv-loop μ-loop
 spot-requires c κs =
     let a = c .before .before .before .before .before .before .before .before .args in
     let p = c .before .before .before .before .before .before .before .before .pre .0 in
     let l = c .before .before .loop in
-    let k = going-in p (l .inv .0) (omega arith) in
+    let k = going-in p (l .inv .0 .going) (omega arith) in
     (p .eight, p .bounded, omega (arith, k .0, p .few))
 
 slice-aggregate-descend : tie.Need-slice-aggregate-descend Inv-loop μ-loop
-slice-aggregate-descend c = sym (c .before .before .before .before .loop .inv .0 .long)
+slice-aggregate-descend c = sym (c .before .before .before .before .loop .inv .0 .going .long)
 
 descend-requires : tie.Need-descend-requires Inv-loop μ-loop
 descend-requires c κs =
     let a = c .before .before .before .before .before .before .before .before .before .before .args in
     let p = c .before .before .before .before .before .before .before .before .before .before .pre .0 in
     let l = c .before .before .before .before .loop in
-    let k = going-in p (l .inv .0) (omega arith) in
+    let k = going-in p (l .inv .0 .going) (omega arith) in
     let g = row-read (a .rows .now) (l .i) _ (k .0) (c .before .before .row-at .ensures) in
-    (p .eight, omega arith, k .1, going-room p (l .inv .0) (omega arith) g)
+    (p .eight, omega arith, k .1, going-room p (l .inv .0 .going) (omega arith) g)
 
 sub-n : tie.Need-sub-n Inv-loop μ-loop
 sub-n c =
     let a = c .before .before .before .before .before .before .before .before .before .before .before .before .before .args in
     let p = c .before .before .before .before .before .before .before .before .before .before .before .before .before .pre .0 in
     let l = c .before .before .before .before .before .before .before .loop in
-    let k = going-in p (l .inv .0) (omega arith) in
+    let k = going-in p (l .inv .0 .going) (omega arith) in
     let g = row-read (a .rows .now) (l .i) _ (k .0) (c .before .before .before .before .before .row-at .ensures) in
-    omega (arith, copied-span p (l .inv .0) (omega arith) g (c .before .before .descend .ensures) (c .before .before .before .before .spot .ensures .0) (c .before .before .before .before .spot .ensures .1) .0)
+    omega (arith, copied-span p (l .inv .0 .going) (omega arith) g (c .before .before .descend .ensures) (c .before .before .before .before .spot .ensures .0) (c .before .before .before .before .spot .ensures .1) .0)
 
 copy-rows-requires : tie.Need-copy-rows-requires Inv-loop μ-loop
 copy-rows-requires c κs =
     let a = c .before .before .before .before .before .before .before .before .before .before .before .before .before .before .args in
     let p = c .before .before .before .before .before .before .before .before .before .before .before .before .before .before .pre .0 in
     let l = c .before .before .before .before .before .before .before .before .loop in
-    let k = going-in p (l .inv .0) (omega arith) in
+    let k = going-in p (l .inv .0 .going) (omega arith) in
     let g = row-read (a .rows .now) (l .i) _ (k .0) (c .before .before .before .before .before .before .row-at .ensures) in
-    let s = copied-span p (l .inv .0) (omega arith) g (c .before .before .before .descend .ensures) (c .before .before .before .before .before .spot .ensures .0) (c .before .before .before .before .before .spot .ensures .1) in
-    let f = going-fits p (l .inv .0) (omega arith) g (c .before .before .before .descend .ensures) (c .before .before .before .before .before .spot .ensures .0) (c .before .before .before .before .before .spot .ensures .1) in
+    let s = copied-span p (l .inv .0 .going) (omega arith) g (c .before .before .before .descend .ensures) (c .before .before .before .before .before .spot .ensures .0) (c .before .before .before .before .before .spot .ensures .1) in
+    let f = going-fits p (l .inv .0 .going) (omega arith) g (c .before .before .before .descend .ensures) (c .before .before .before .before .before .spot .ensures .0) (c .before .before .before .before .before .spot .ensures .1) in
     (omega (arith, f, s .0, s .1, l .inv .1, c .before .before .before .before .before .before .before .before .before .before .before .before .before .before .pre .1), omega (arith, s .0, s .1, row-table-length (a .rows .now)))
 
 add-w : tie.Need-add-w Inv-loop μ-loop
@@ -94,9 +88,9 @@ add-w c =
     let a = c .before .before .before .before .before .before .before .before .before .before .before .before .before .before .before .before .before .args in
     let p = c .before .before .before .before .before .before .before .before .before .before .before .before .before .before .before .before .before .pre .0 in
     let l = c .before .before .before .before .before .before .before .before .before .before .before .loop in
-    let k = going-in p (l .inv .0) (omega arith) in
+    let k = going-in p (l .inv .0 .going) (omega arith) in
     let g = row-read (a .rows .now) (l .i) _ (k .0) (c .before .before .before .before .before .before .before .before .before .row-at .ensures) in
-    let n = going-next p (l .inv .0) (omega arith) g (c .before .before .before .before .before .before .descend .ensures) (c .before .before .before .before .before .before .before .before .spot .ensures .0) (c .before .before .before .before .before .before .before .before .spot .ensures .1) in
+    let n = going-next p (l .inv .0 .going) (omega arith) g (c .before .before .before .before .before .before .descend .ensures) (c .before .before .before .before .before .before .before .before .spot .ensures .0) (c .before .before .before .before .before .before .before .before .spot .ensures .1) in
     omega (arith, n .few, k .0, p .few)
 
 add-i : tie.Need-add-i Inv-loop μ-loop
@@ -104,7 +98,7 @@ add-i c =
     let a = c .before .before .before .before .before .before .before .before .before .before .before .before .before .before .before .before .before .args in
     let p = c .before .before .before .before .before .before .before .before .before .before .before .before .before .before .before .before .before .pre .0 in
     let l = c .before .before .before .before .before .before .before .before .before .before .before .loop in
-    let k = going-in p (l .inv .0) (omega arith) in
+    let k = going-in p (l .inv .0 .going) (omega arith) in
     omega (arith, k .0, p .few)
 
 loop-less : tie.Need-loop-less Inv-loop μ-loop
@@ -112,7 +106,7 @@ loop-less c =
     let a = c .before .before .before .before .before .before .before .before .before .before .before .before .before .before .before .before .before .args in
     let p = c .before .before .before .before .before .before .before .before .before .before .before .before .before .before .before .before .before .pre .0 in
     let l = c .before .before .before .before .before .before .before .before .before .before .before .loop in
-    let k = going-in p (l .inv .0) (omega arith) in
+    let k = going-in p (l .inv .0 .going) (omega arith) in
     omega (arith, k .0)
 
 loop-again : tie.Need-loop-again Inv-loop μ-loop
@@ -120,13 +114,10 @@ loop-again c =
     let a = c .before .before .before .before .before .before .before .before .before .before .before .before .before .before .before .before .before .args in
     let p = c .before .before .before .before .before .before .before .before .before .before .before .before .before .before .before .before .before .pre .0 in
     let l = c .before .before .before .before .before .before .before .before .before .before .before .loop in
-    let k = going-in p (l .inv .0) (omega arith) in
+    let k = going-in p (l .inv .0 .going) (omega arith) in
     let g = row-read (a .rows .now) (l .i) _ (k .0) (c .before .before .before .before .before .before .before .before .before .row-at .ensures) in
-    let f = going-fits p (l .inv .0) (omega arith) g (c .before .before .before .before .before .before .descend .ensures) (c .before .before .before .before .before .before .before .before .spot .ensures .0) (c .before .before .before .before .before .before .before .before .spot .ensures .1) in (
-      going-next p (l .inv .0) (omega arith) g (c .before .before .before .before .before .before .descend .ensures) (c .before .before .before .before .before .before .before .before .spot .ensures .0) (c .before .before .before .before .before .before .before .before .spot .ensures .1),
-      c .before .before .copy-rows .kept .0 ∙ l .inv .1,
-      written-next p (l .inv .0) (omega arith) g (c .before .before .before .before .before .before .descend .ensures) (c .before .before .before .before .before .before .before .before .spot .ensures .0) (c .before .before .before .before .before .before .before .before .spot .ensures .1) (rowTable (l .to)) _ (omega (arith, f, l .inv .1, c .before .before .before .before .before .before .before .before .before .before .before .before .before .before .before .before .before .pre .1, row-table-length (l .to))) (c .before .before .copy-rows .ensures) (l .inv .2),
-    )
+    let f = going-fits p (l .inv .0 .going) (omega arith) g (c .before .before .before .before .before .before .descend .ensures) (c .before .before .before .before .before .before .before .before .spot .ensures .0) (c .before .before .before .before .before .before .before .before .spot .ensures .1) in
+    (writing-next p (l .inv .0 .going) (omega arith) g (c .before .before .before .before .before .before .descend .ensures) (c .before .before .before .before .before .before .before .before .spot .ensures .0) (c .before .before .before .before .before .before .before .before .spot .ensures .1) (rowTable (l .to)) _ (omega (arith, f, l .inv .1, c .before .before .before .before .before .before .before .before .before .before .before .before .before .before .before .before .before .pre .1, row-table-length (l .to))) (c .before .before .copy-rows .ensures) (l .inv .0 .rows), c .before .before .copy-rows .kept .0 ∙ l .inv .1)
 
 same-length : tie.Need-same-length Inv-loop μ-loop
 same-length c = c .before .loop .inv .1
@@ -136,7 +127,7 @@ returns c =
     let a = c .before .before .before .before .before .before .before .args in
     let p = c .before .before .before .before .before .before .before .pre .0 in
     let l = c .before .loop in
-    written-end p (l .inv .0) (rowTable (l .to)) (omega arith) (omega (arith, l .inv .1, c .before .before .before .before .before .before .before .pre .1, row-table-length (l .to))) (l .inv .2)
+    written-end p (l .inv .0 .going) (rowTable (l .to)) (omega arith) (omega (arith, l .inv .1, c .before .before .before .before .before .before .before .pre .1, row-table-length (l .to))) (l .inv .0 .rows)
 
 pub write-masked-spec : {M : Type 1} → statement M
 write-masked-spec =
