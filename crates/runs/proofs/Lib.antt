@@ -14,3 +14,4 @@ pub mod Tries
 pub mod EndTries
 pub mod Steps
 pub mod Finds
+pub mod Outgrown

@@ -18,7 +18,7 @@ use Rattle.meaning.specs.declared.Run.{Run}
 use Rattle.meaning.specs.declared.Run.the-variants.{Ran}
 use Rattle.meaning.proofs.Trees.Tests.{both, left}
 use Rattle.meaning.proofs.Bytes.Layouts.{AllBytes, padded-none}
-use Rattle.meaning.proofs.Bytes.Records.{Good, good-state, record-state, Header, header}
+use Rattle.meaning.proofs.Bytes.Records.{Good, good-state, record-state, state-record, record-length, sound-record, Header, header}
 use Rattle.meaning.proofs.Trees.EachRow.{Every}
 use Rattle.meaning.proofs.Bytes.RowTables.{legal}
 use Rattle.meaning.proofs.Entries.GoodStays.{Board}
@@ -27,8 +27,8 @@ use Rattle.search.specs.Kept.{rowCount}
 use Rattle.search.specs.Search.{Room}
 use Rattle.search.specs.declared.Stand.{Stand}
 use Rattle.runs.specs.Sites.{Site, Whole, Halted, own, InRecord, Turns, Tells, Calling}
-use Rattle.runs.specs.Going.{space, OnTheWay, Begins, PutBack, Fronts}
-use Rattle.runs.specs.Loops.{Ready, SentOff}
+use Rattle.runs.specs.Going.{space, later, OnTheWay, Begins, PutBack, Fronts}
+use Rattle.runs.specs.Loops.{Ready, SentOff, Outgrown}
 use Rattle.runs.specs.Tries.{Trying, Tries, Turning, Steps, Found}
 use Rattle.runs.specs.declared.Next.{Next}
 use Rattle.runs.specs.declared.Tried.{Tried}
@@ -141,7 +141,7 @@ module _ (m : Limits) (kept₀ work₀ : List ℕ) (budget : ℕ) where
           }
 
     -- IT BEGINS
-    pub under-begins : (work frames : List ℕ) (s : Stand) → Begins m kept₀ work₀ work s → length work ≡ length work₀ → m .rows ≤ length frames → length work₀ ≤ 32768 → m .rows ≤ 2048 → Under m kept₀ budget kept₀ work frames s 0
+    pub under-begins : (work frames : List ℕ) (s : Stand) → Begins m kept₀ work₀ work s → length work ≡ length work₀ → rowCount′ kept₀ ≤ length frames → length work₀ ≤ 32768 → m .rows ≤ 2048 → Under m kept₀ budget kept₀ work frames s 0
     unfolding stepped
     under-begins work frames s b lw deep few rows =
         let w = begun m kept₀ work₀ work frames s form₀ (start .next) (z .board .small) (z .long) (z .bytes) (z .is-sound) (omega (arith, heads .rowsMany, record-long m, z .long)) b in
@@ -155,7 +155,7 @@ module _ (m : Limits) (kept₀ work₀ : List ℕ) (budget : ℕ) where
           good = good₀;
           front = refl;
           long = refl;
-          room = record { ends = omega (arith, b .first, rc); few = omega (arith, rc); rows = omega (arith, n); left-long = omega (arith, n, length-drop (rowsAt m) kept₀, record-long m, z .long); deep = omega (arith, n) };
+          room = record { ends = omega (arith, b .first, rc); few = omega (arith, rc); rows = omega (arith, n); left-long = omega (arith, n, length-drop (rowsAt m) kept₀, record-long m, z .long); deep = omega (arith, b .first, b .none-passed, rc, deep) };
         }
 
     -- what the next search asks
@@ -240,6 +240,19 @@ module _ (m : Limits) (kept₀ work₀ : List ℕ) (budget : ℕ) where
           → (r ≡ Ran a made) × PutBack m kept kept′ work s × (work′ ≡ replicate (length work) 0) → RunSays m kept₀ work₀ budget r kept′ work′
       halts-says a r kept′ work′ lw q (p, b, w) =
           says r _ kept′ work′ q p (b form₀ (start .next) frames start (x .tree) (same-fronts kept (x .front) (x .long)) (x .halted .all)) (w ∙ ap (λ (i : ℕ). replicate i 0) (lw ∙ z .work-long) ∙ sym (padded-none (m .workBytes)))
+
+      -- where its term outgrows the frames, the record of the whole goes on
+      pub leaves : (few kept′ : List ℕ) → length few < m .rows → PutBack m kept kept′ work s → Outgrown m kept₀ few budget made kept′
+      leaves few kept′ short b =
+          let u = stepped start (x .tree) in
+          let e : kept′ ≡ recordOf m u = b form₀ (start .next) frames start (x .tree) (same-fronts kept (x .front) (x .long)) (x .halted .all) in
+          record {
+            short = short;
+            few = x .way .few;
+            long = ap length e ∙ record-length m u (z .board .small) (x .good);
+            is-sound = ap (sound m) e ∙ sound-record m u (z .board .small) (x .good);
+            goes-on = x .way .goes-on ∙ ap (λ (v : State). later made (runs m (budget - made) v)) (sym (ap (stateOf m) e ∙ state-record m u (z .board .small) (x .good)));
+          }
 
       -- the whole does what the rule does
       pub whole-goes : (c : Option Call) (u : Tree) → own form₀ (start .next) (x .halted .tree) ≡ go c u → step form₀ (start .next) (x .tree) ≡ go c (top (around (x .halted .outer) (u ∷ x .halted .rest)))

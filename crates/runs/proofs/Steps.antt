@@ -70,7 +70,7 @@ module _ (form : ℕ → Form) (left left′ right right′ frames : List ℕ) (
       omega (arith, sym (length-flat (top (around outer ts))) ∙ ap length (sym e) ∙ length-append (passedRows outer) (spelled ts), passed-long, coming-long right′ (s′ .r) ts (behind .coming))
 
   -- there is room for the search there
-  module _ (rows : ℕ) (room : Room left right frames s) (few : rows ≤ 2048) (long : 8 * rows ≤ length left′) (deep : rows ≤ length frames) (wide : rows + 2 ≤ rowCount right) (fits : s .l + (rowCount right - s .r) + new ≤ rows + old) where
+  module _ (rows : ℕ) (room : Room left right frames s) (few : rows ≤ 2048) (long : 8 * rows ≤ length left′) (deep : s .l + (rowCount right - s .r) + new ≤ length frames + old) (wide : rows + 2 ≤ rowCount right) (fits : s .l + (rowCount right - s .r) + new ≤ rows + old) where
     same : rowCount right′ ≡ rowCount right
     same = ap (λ (i : ℕ). i / 8) (x .long)
 

@@ -10,7 +10,7 @@ ghost use Prim.Native.Nat.{ℕ, _+_, _*_, _-_, _≤_, _<_};
 ghost use mathlib.Core.Bool.{true, false};
 ghost use mathlib.Core.List.{List, [], _∷_, _++_};
 ghost use lib.ListN.{length, take, drop, replicate};
-ghost use Rattle.meaning.specs.Bytes.{number, write, termRow, recordBytes};
+ghost use Rattle.meaning.specs.Bytes.{number, write, termRow, recordBytes, arm};
 ghost use Rattle.meaning.specs.Records.{rowCount as termCount, typeCount, typesIn};
 ghost use Rattle.layout.specs.Rows.{board};
 ghost use Rattle.search.specs.Kept.{rowCount};
@@ -23,7 +23,7 @@ ghost use Rattle.runs.specs.Sites.{Whole, Passing, Halts, GoesOn, InReco
 ghost use Rattle.runs.specs.Tries.{Trying, Tries, Turning, Going, Makes, Steps, Stands, Found, atRoot, callBy};
 ghost use Rattle.runs.specs.declared.Tried.the-variants.{Goes, Uncounted};
 ghost use Rattle.runs.specs.Going.{space, Begins, PutBack, letterFrom};
-ghost use Rattle.runs.specs.Loops.{TellsValue, SentOff, Ready};
+ghost use Rattle.runs.specs.Loops.{TellsValue, SentOff, Ready, GoneSays, saidLater, stepsSaid};
 ghost use Rattle.meaning.specs.Records.{headSound, openCount};
 ghost use Rattle.meaning.specs.Entries.{RunSays};
 ghost use Rattle.meaning.specs.declared.Run.the-variants.{Ran};
@@ -399,7 +399,7 @@ fn step_anew(
     s: Stand,
     c: Change,
 ) -> Stand
-    requires { ⌜ (length (now kept) ≡ recordBytes (board m)) × (typeCount (now kept) ≤ m .types) × (m .rows ≤ 2048) × (s .l + (rowCount (now work) - s .r) ≤ m .rows) × (m .rows + 2 ≤ rowCount (now work)) × (s .l + (rowCount (now work) - s .r) + c .new ≤ m .rows + c .old) × (m .rows ≤ length (now frames)) × Room (space (board m) (now kept)) (now work) (now frames) s × Turning (formOf (typesIn (now kept))) (space (board m) (now kept)) (now work) (now frames) s (c .old) (c .new) ⌝ }
+    requires { ⌜ (length (now kept) ≡ recordBytes (board m)) × (typeCount (now kept) ≤ m .types) × (m .rows ≤ 2048) × (s .l + (rowCount (now work) - s .r) ≤ m .rows) × (m .rows + 2 ≤ rowCount (now work)) × (s .l + (rowCount (now work) - s .r) + c .new ≤ m .rows + c .old) × (s .l + (rowCount (now work) - s .r) + c .new ≤ length (now frames) + c .old) × Room (space (board m) (now kept)) (now work) (now frames) s × Turning (formOf (typesIn (now kept))) (space (board m) (now kept)) (now work) (now frames) s (c .old) (c .new) ⌝ }
     ensures { λ e. ⌜ InRecord (board m) (now (kept .entry)) (now (kept .exit)) × Steps (formOf (typesIn (now (kept .entry)))) (space (board m) (now (kept .entry))) (space (board m) (now (kept .exit))) (now (work .entry)) (now (work .exit)) (now (frames .entry)) s e (c .old) (c .new) ⌝ }
 {
     let e = make_rule(kept, work, m, s, c);
@@ -409,7 +409,7 @@ fn step_anew(
 
 // The same where the new tree stands already.
 fn step_over(kept: &[u8], work: &mut [u8], frames: &[u32], m: Limits, s: Stand, c: Change) -> Stand
-    requires { ⌜ (c .new ≡ 0) × (length (now kept) ≡ recordBytes (board m)) × (typeCount (now kept) ≤ m .types) × (m .rows ≤ 2048) × (s .l + (rowCount (now work) - s .r) ≤ m .rows) × (m .rows + 2 ≤ rowCount (now work)) × (s .l + (rowCount (now work) - s .r) + c .new ≤ m .rows + c .old) × (m .rows ≤ length (now frames)) × Room (space (board m) (now kept)) (now work) (now frames) s × Turning (formOf (typesIn (now kept))) (space (board m) (now kept)) (now work) (now frames) s (c .old) (c .new) ⌝ }
+    requires { ⌜ (c .new ≡ 0) × (length (now kept) ≡ recordBytes (board m)) × (typeCount (now kept) ≤ m .types) × (m .rows ≤ 2048) × (s .l + (rowCount (now work) - s .r) ≤ m .rows) × (m .rows + 2 ≤ rowCount (now work)) × (s .l + (rowCount (now work) - s .r) + c .new ≤ m .rows + c .old) × (s .l + (rowCount (now work) - s .r) + c .new ≤ length (now frames) + c .old) × Room (space (board m) (now kept)) (now work) (now frames) s × Turning (formOf (typesIn (now kept))) (space (board m) (now kept)) (now work) (now frames) s (c .old) (c .new) ⌝ }
     ensures { λ e. ⌜ Steps (formOf (typesIn (now (kept .entry)))) (space (board m) (now (kept .entry))) (space (board m) (now (kept .entry))) (now (work .entry)) (now (work .exit)) (now (frames .entry)) s e (c .old) (c .new) ⌝ }
 {
     let at = layout::rows_at(m);
@@ -428,7 +428,7 @@ fn step_over(kept: &[u8], work: &mut [u8], frames: &[u32], m: Limits, s: Stand, 
 
 // A step.
 fn step(kept: &mut [u8], work: &mut [u8], frames: &[u32], m: Limits, s: Stand, c: Change) -> Stand
-    requires { ⌜ (length (now kept) ≡ recordBytes (board m)) × (typeCount (now kept) ≤ m .types) × (m .rows ≤ 2048) × (s .l + (rowCount (now work) - s .r) ≤ m .rows) × (m .rows + 2 ≤ rowCount (now work)) × (s .l + (rowCount (now work) - s .r) + c .new ≤ m .rows + c .old) × (m .rows ≤ length (now frames)) × Room (space (board m) (now kept)) (now work) (now frames) s × Turning (formOf (typesIn (now kept))) (space (board m) (now kept)) (now work) (now frames) s (c .old) (c .new) ⌝ }
+    requires { ⌜ (length (now kept) ≡ recordBytes (board m)) × (typeCount (now kept) ≤ m .types) × (m .rows ≤ 2048) × (s .l + (rowCount (now work) - s .r) ≤ m .rows) × (m .rows + 2 ≤ rowCount (now work)) × (s .l + (rowCount (now work) - s .r) + c .new ≤ m .rows + c .old) × (s .l + (rowCount (now work) - s .r) + c .new ≤ length (now frames) + c .old) × Room (space (board m) (now kept)) (now work) (now frames) s × Turning (formOf (typesIn (now kept))) (space (board m) (now kept)) (now work) (now frames) s (c .old) (c .new) ⌝ }
     ensures { λ e. ⌜ InRecord (board m) (now (kept .entry)) (now (kept .exit)) × Steps (formOf (typesIn (now (kept .entry)))) (space (board m) (now (kept .entry))) (space (board m) (now (kept .exit))) (now (work .entry)) (now (work .exit)) (now (frames .entry)) s e (c .old) (c .new) ⌝ }
 {
     if c.new == 0 {
@@ -521,7 +521,7 @@ fn step_fresh(
     m: Limits,
     p: Place,
 ) -> Stand
-    requires { ⌜ (length (now kept) ≡ recordBytes (board m)) × (typeCount (now kept) ≤ m .types) × (m .rows ≤ 2048) × (p .s .l + (rowCount (now work) - p .s .r) ≤ m .rows) × (m .rows + 2 ≤ rowCount (now work)) × (p .s .l + (rowCount (now work) - p .s .r) + p .x .new ≤ m .rows + p .x .old) × (m .rows ≤ length (now frames)) × Room (space (board m) (now kept)) (now work) (now frames) (p .s) × Turning (formOf (typesIn (now kept))) (space (board m) (now kept)) (now work) (now frames) (p .s) (p .x .old) (p .x .new) × (p .x .made ≡ true → (p .s .here ≡ true) × (0 < p .x .new) × Stands (formOf (typesIn (now kept))) (now work) (now fresh) (p .s) (p .x .new)) ⌝ }
+    requires { ⌜ (length (now kept) ≡ recordBytes (board m)) × (typeCount (now kept) ≤ m .types) × (m .rows ≤ 2048) × (p .s .l + (rowCount (now work) - p .s .r) ≤ m .rows) × (m .rows + 2 ≤ rowCount (now work)) × (p .s .l + (rowCount (now work) - p .s .r) + p .x .new ≤ m .rows + p .x .old) × (p .s .l + (rowCount (now work) - p .s .r) + p .x .new ≤ length (now frames) + p .x .old) × Room (space (board m) (now kept)) (now work) (now frames) (p .s) × Turning (formOf (typesIn (now kept))) (space (board m) (now kept)) (now work) (now frames) (p .s) (p .x .old) (p .x .new) × (p .x .made ≡ true → (p .s .here ≡ true) × (0 < p .x .new) × Stands (formOf (typesIn (now kept))) (now work) (now fresh) (p .s) (p .x .new)) ⌝ }
     ensures { λ e. ⌜ InRecord (board m) (now (kept .entry)) (now (kept .exit)) × Steps (formOf (typesIn (now (kept .entry)))) (space (board m) (now (kept .entry))) (space (board m) (now (kept .exit))) (now (work .entry)) (now (work .exit)) (now (frames .entry)) (p .s) e (p .x .old) (p .x .new) ⌝ }
 {
     let s = p.s;
@@ -652,12 +652,35 @@ fn spare(work: &[u8], m: Limits, s: Stand, old: usize) -> usize
     m.rows as usize + old - all
 }
 
-// A run on a sound record, with a frame for each row.
-fn go(kept: &mut [u8], work: &mut [u8], frames: &mut [u32], m: Limits, budget: u32) -> Run
-    requires { ⌜ Ready (board m) (now kept) (now work) (now frames) ⌝ }
-    ensures { λ r. ⌜ RunSays (board m) (now (kept .entry)) (now (work .entry)) budget r (now (kept .exit)) (now (work .exit)) ⌝ }
+// Whether a term has more rows than there are frames, once old rows of it have given way to new ones.
+fn outgrows(frames: &[u32], work: &[u8], s: Stand, old: usize, new: usize) -> bool
+    requires { ⌜ (s .r ≤ rowCount (now work)) × (rowCount (now work) ≤ 4096) × (s .l ≤ 4096) × (length (now frames) ≤ 4096) × (old ≤ 4096) × (new ≤ 8192) ⌝ }
+    ensures { λ b. ⌜ (b ≡ false → s .l + (rowCount (now (work .entry)) - s .r) + new ≤ length (now (frames .entry)) + old) × (b ≡ true → length (now (frames .entry)) + old < s .l + (rowCount (now (work .entry)) - s .r) + new) ⌝ }
 {
-    let mut fresh = [0u8; 8192];
+    if frames.len() + old < s.l + (layout::term_rows(work) - s.r) + new {
+        return true;
+    }
+    false
+}
+
+// How a run on some frames ends: with an answer, or where its term outgrows them, after some steps.
+pub enum Gone {
+    Ended(Run),
+    Left(u32),
+}
+
+// A run on a sound record, as long as there is a frame for each row; rows are made in `fresh`.
+fn go(
+    kept: &mut [u8],
+    work: &mut [u8],
+    frames: &mut [u32],
+    fresh: &mut [u8],
+    m: Limits,
+    budget: u32,
+) -> Gone
+    requires { ⌜ Ready (board m) (now kept) (now work) (now frames) × (length (now fresh) ≤ 32768) ⌝ }
+    ensures { λ g. ⌜ GoneSays (board m) (now (kept .entry)) (now (work .entry)) (now (frames .entry)) budget g (now (kept .exit)) (now (work .exit)) ⌝ }
+{
     let mut s = begin(kept, work, m);
     let mut made: u32 = 0;
     loop {
@@ -667,30 +690,34 @@ fn go(kept: &mut [u8], work: &mut [u8], frames: &mut [u32], m: Limits, budget: u
         match x {
             Tried::Stays => {
                 if value_at(kept, work, frames, m, at) {
-                    return halt(kept, work, m, at, Answer::Value, made);
+                    return Gone::Ended(halt(kept, work, m, at, Answer::Value, made));
                 }
-                return halt(kept, work, m, at, Answer::Waiting, made);
+                return Gone::Ended(halt(kept, work, m, at, Answer::Waiting, made));
             }
             Tried::Goes(old, new) => {
                 if spare(work, m, at, old) < new {
-                    return halt(kept, work, m, at, Answer::Room, made);
+                    return Gone::Ended(halt(kept, work, m, at, Answer::Room, made));
                 }
                 if made == budget {
-                    return halt(kept, work, m, at, Answer::Budget, made);
+                    return Gone::Ended(halt(kept, work, m, at, Answer::Budget, made));
+                }
+                if outgrows(frames, work, at, old, new) {
+                    put_back(kept, work, m, at);
+                    return Gone::Left(made);
                 }
                 s = step(kept, work, frames, m, at, Change { old: old, new: new });
                 made += 1;
             }
             Tried::Sends(old) => {
                 if m.calls <= sound::head::open_count(kept) {
-                    return halt(kept, work, m, at, Answer::Held, made);
+                    return Gone::Ended(halt(kept, work, m, at, Answer::Held, made));
                 }
                 let next = sound::head::next_number(kept);
                 if m.last < next {
-                    return halt(kept, work, m, at, Answer::Numbers, made);
+                    return Gone::Ended(halt(kept, work, m, at, Answer::Numbers, made));
                 }
                 if made == budget {
-                    return halt(kept, work, m, at, Answer::Budget, made);
+                    return Gone::Ended(halt(kept, work, m, at, Answer::Budget, made));
                 }
                 send(
                     kept,
@@ -703,28 +730,95 @@ fn go(kept: &mut [u8], work: &mut [u8], frames: &mut [u32], m: Limits, budget: u
                         next: next,
                     },
                 );
-                return Run::Ran(Answer::Sent(next), made + 1);
+                return Gone::Ended(Run::Ran(Answer::Sent(next), made + 1));
             }
             Tried::Uncounted => {
-                let f = make_fresh(kept, work, &mut fresh, at);
+                let f = make_fresh(kept, work, fresh, at);
                 if spare(work, m, at, f.old) < f.new {
-                    return halt(kept, work, m, at, Answer::Room, made);
+                    return Gone::Ended(halt(kept, work, m, at, Answer::Room, made));
                 }
                 if made == budget {
-                    return halt(kept, work, m, at, Answer::Budget, made);
+                    return Gone::Ended(halt(kept, work, m, at, Answer::Budget, made));
                 }
-                s = step_fresh(kept, work, frames, &fresh, m, Place { s: at, x: f });
+                if outgrows(frames, work, at, f.old, f.new) {
+                    put_back(kept, work, m, at);
+                    return Gone::Left(made);
+                }
+                s = step_fresh(kept, work, frames, fresh, m, Place { s: at, x: f });
                 made += 1;
             }
         }
     }
 }
 
-// A run on a sound record and a work buffer of the board's length.
-pub fn run(kept: &mut [u8], work: &mut [u8], m: Limits, budget: u32) -> Run
-    requires { ⌜ Ready (board m) (now kept) (now work) (replicate 2048 0) ⌝ }
-    ensures { λ r. ⌜ RunSays (board m) (now (kept .entry)) (now (work .entry)) budget r (now (kept .exit)) (now (work .exit)) ⌝ }
+// The limits of the attachment arm.
+pub fn arm_limits() -> Limits
+    ensures { λ m. ⌜ board m ≡ arm ⌝ }
+{
+    Limits {
+        types: 256,
+        rows: 2048,
+        calls: 64,
+        last: 65535,
+        program: 1024,
+        reply: 256,
+        work: 16400,
+    }
+}
+
+// The same on the arm: its limits are known where the loop is compiled.
+fn ride(kept: &mut [u8], work: &mut [u8], frames: &mut [u32], fresh: &mut [u8], budget: u32) -> Gone
+    requires { ⌜ Ready arm (now kept) (now work) (now frames) × (length (now fresh) ≤ 32768) ⌝ }
+    ensures { λ g. ⌜ GoneSays arm (now (kept .entry)) (now (work .entry)) (now (frames .entry)) budget g (now (kept .exit)) (now (work .exit)) ⌝ }
+{
+    go(kept, work, frames, fresh, arm_limits(), budget)
+}
+
+// A run with room for any term.
+fn run_far(kept: &mut [u8], work: &mut [u8], budget: u32) -> Run
+    requires { ⌜ Ready arm (now kept) (now work) (replicate 2048 0) ⌝ }
+    ensures { λ r. ⌜ RunSays arm (now (kept .entry)) (now (work .entry)) budget r (now (kept .exit)) (now (work .exit)) ⌝ }
 {
     let mut frames = [0u32; 2048];
-    go(kept, work, &mut frames, m, budget)
+    let mut fresh = [0u8; 16384];
+    let g = ride(kept, work, &mut frames, &mut fresh, budget);
+    match g {
+        Gone::Ended(r) => r,
+        // never: there is a frame for each row that a term may have
+        Gone::Left(n) => Run::Ran(Answer::Budget, n),
+    }
+}
+
+// What a run says, said n steps later.
+fn said_later(n: u32, r: Run) -> Run
+    requires { ⌜ n + stepsSaid r < 4294967296 ⌝ }
+    ensures { λ x. ⌜ x ≡ saidLater n r ⌝ }
+{
+    match r {
+        Run::Ran(a, k) => Run::Ran(a, n + k),
+        Run::Rejected(x) => Run::Rejected(x),
+    }
+}
+
+// Terms of up to so many rows begin on few frames.
+const FEW: u16 = 256;
+
+// A run on a sound record and a work buffer of the arm's length. A small term has few frames and little room for new rows, since both are cleared.
+pub fn run(kept: &mut [u8], work: &mut [u8], budget: u32) -> Run
+    requires { ⌜ Ready arm (now kept) (now work) (replicate 2048 0) ⌝ }
+    ensures { λ r. ⌜ RunSays arm (now (kept .entry)) (now (work .entry)) budget r (now (kept .exit)) (now (work .exit)) ⌝ }
+{
+    if FEW < sound::head::row_count(kept) {
+        return run_far(kept, work, budget);
+    }
+    let mut frames = [0u32; 256];
+    let mut fresh = [0u8; 2048];
+    let g = ride(kept, work, &mut frames, &mut fresh, budget);
+    match g {
+        Gone::Ended(r) => r,
+        Gone::Left(n) => {
+            let r = run_far(kept, work, budget - n);
+            said_later(n, r)
+        }
+    }
 }

@@ -10,7 +10,6 @@ use Rattle.meaning.specs.Bytes.{_∧ᵇ_, Limits, arm, recordBytes}
 use Rattle.meaning.specs.Records.{sound}
 use Rattle.meaning.specs.Entries.{lent, rejected, run, RunSays}
 use Rattle.meaning.specs.declared.Refusal.the-variants.{Length, Unsound}
-use Rattle.meaning.specs.declared.Run.{Run}
 use Rattle.meaning.specs.declared.Run.the-variants.{Rejected}
 use Rattle.meaning.proofs.Trees.Tests.{both}
 use Rattle.sound.proofs.Laws.{fails, passes}
@@ -35,10 +34,6 @@ module _ (m : Limits) (a : m ≡ arm) (kept work : List ℕ) (budget : ℕ) wher
   not-sound e f s =
       let l = both _ _ (eq-eqb (length kept) (recordBytes m) e) (eq-eqb (length work) (m .workBytes) f) in
       subst (λ (x : Limits). RunSays x kept work budget (Rejected Unsound) kept work) a (record { answer = rw (l, s) refl; kept-bytes = rw (l, s) refl; work-bytes = rw (l, s) refl })
-
--- what a board of the arm's limits says, the arm says
-pub arm-says : (m : Limits) (kept work : List ℕ) (budget : ℕ) (r : Run) (kept′ work′ : List ℕ) → m ≡ arm → RunSays m kept work budget r kept′ work′ → RunSays arm kept work budget r kept′ work′
-arm-says m kept work budget r kept′ work′ a s = subst (λ (x : Limits). RunSays x kept work budget r kept′ work′) a s
 
 -- two outcomes of the exported run are equal
 pub tells-run-once : (kept work : List ℕ) (budget : ℕ) (a b c d : List ℕ) (u v : RunAnswer) → TellsRun kept work budget u a b → TellsRun kept work budget v c d

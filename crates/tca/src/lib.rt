@@ -27,21 +27,6 @@ pub struct Verdict {
     pub place: u32,
 }
 
-// The attachment arm.
-fn arm_limits() -> Limits
-    ensures { λ m. ⌜ board m ≡ arm ⌝ }
-{
-    Limits {
-        types: 256,
-        rows: 2048,
-        calls: 64,
-        last: 65535,
-        program: 1024,
-        reply: 256,
-        work: 16400,
-    }
-}
-
 // Refusal 8: the first future.
 fn first_future(rows: &[u8]) -> Found
     requires { ⌜ length (now rows) ≤ 32768 ⌝ }
@@ -150,7 +135,7 @@ fn load_verdict(file: &[u8], room: usize, m: Limits) -> meaning::Verdict
 pub fn load(file: &[u8], kept: &mut [u8]) -> meaning::Verdict
     ensures { λ v. ⌜ LoadSays arm (now (file .entry)) (now (kept .entry)) v (now (kept .exit)) ⌝ }
 {
-    let m = arm_limits();
+    let m = runs::arm_limits();
     let v = load_verdict(file, kept.len(), m);
     match v {
         meaning::Verdict::Accepted => {

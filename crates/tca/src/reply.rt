@@ -30,7 +30,7 @@ fn reply_verdict(kept: &[u8], room: usize, answer: &[u8], m: Limits) -> Verdict
 pub fn reply(kept: &mut [u8], work: &mut [u8], answer: &[u8]) -> Verdict
     ensures { λ v. ⌜ ReplySays arm (now (kept .entry)) (now (work .entry)) (now (answer .entry)) v (now (kept .exit)) (now (work .exit)) ⌝ }
 {
-    let m = super::arm_limits();
+    let m = runs::arm_limits();
     let v = reply_verdict(kept, work.len(), answer, m);
     match v {
         Verdict::Accepted => {

@@ -9,7 +9,7 @@ ghost use Rattle.tca.specs.Runs.{TellsRun};
 pub fn run(kept: &mut [u8], work: &mut [u8], budget: u32) -> Run
     ensures { λ r. ⌜ RunSays arm (now (kept .entry)) (now (work .entry)) budget r (now (kept .exit)) (now (work .exit)) ⌝ }
 {
-    let m = super::arm_limits();
+    let m = runs::arm_limits();
     if kept.len() != layout::record_bytes(m) {
         return Run::Rejected(Refusal::Length);
     }
@@ -19,7 +19,7 @@ pub fn run(kept: &mut [u8], work: &mut [u8], budget: u32) -> Run
     if !sound::is_sound(kept, m) {
         return Run::Rejected(Refusal::Unsound);
     }
-    runs::run(kept, work, m, budget)
+    runs::run(kept, work, budget)
 }
 
 #[no_mangle]
