@@ -12,6 +12,7 @@ use lib.Seq.{drop-drop}
 use borrow.Author.Tests.{eqb-true, eq-eqb, ne-eqb, leb-false}
 use Rattle.meaning.specs.Types.{Form, Param, params, names as namesOf, find, low, rest, formNo, parts}
 use Rattle.meaning.specs.Terms.{Head, arity, code, wordOf, headFrom, Tree, Forest, node, end, more, headOf, tyOf, Row, flat, flats, raw, rowOf, size, sizes, treeAt, grove, blank}
+use Rattle.meaning.specs.Steps.{_∨ᵇ_}
 use Rattle.meaning.proofs.Trees.Parse.{tree-row}
 use Rattle.rules.specs.Forms.{says, forms}
 use Rattle.rules.proofs.ByRule.{params-few, params-high, params-all}
@@ -77,22 +78,30 @@ within-more names x z k w a j i = elim (ℕ-discrete j k) [
   | no q ↦ let b = a j (omega (arith, i, q)) in (omega (arith, b .0, w .least), omega (arith, b .1, w .greatest))
 ]
 
+-- a row that is no function, and whose word is none of the names
+module _ (form : ℕ → Form) (names : List ℕ) (k n w ty : ℕ) (function : k ≡ 6 → ⊥) (unpicked : pick names 0 w ≡ none) where
+  pub other-bare : mark (binds form (headFrom k n w) ty) names 0 ≡ 0
+  unfolding told
+  other-bare = elim (ℕ-discrete k 19) [
+    | yes e ↦ bare-let form names k n w ty e (ap told unpicked)
+    | no e ↦ bare-other form names k n w ty function e
+  ]
+
+  pub other-chosen : chosen names (headFrom k n w) 0 ≡ none
+  other-chosen = elim (ℕ-discrete k 5) [
+    | yes e ↦ chosen-var names k n w 0 e ∙ unpicked
+    | no e ↦ chosen-none names k n w 0 e
+  ]
+
 module _ (form : ℕ → Form) (names : List ℕ) (x : Range) (inside : Within names x) (k n w ty : ℕ) (function : k ≡ 6 → ⊥) (out : x .low ≤ w → w ≤ x .high → ⊥) where
   none-picked : pick names 0 w ≡ none
   none-picked = unpicked-out names w (λ j h e. let q = inside .each j h in out (omega (arith, q .0, e)) (omega (arith, q .1, e)))
 
   pub out-bare : mark (binds form (headFrom k n w) ty) names 0 ≡ 0
-  unfolding told
-  out-bare = elim (ℕ-discrete k 19) [
-    | yes e ↦ bare-let form names k n w ty e (ap told none-picked)
-    | no e ↦ bare-other form names k n w ty function e
-  ]
+  out-bare = other-bare form names k n w ty function none-picked
 
   pub out-chosen : chosen names (headFrom k n w) 0 ≡ none
-  out-chosen = elim (ℕ-discrete k 5) [
-    | yes e ↦ chosen-var names k n w 0 e ∙ none-picked
-    | no e ↦ chosen-none names k n w 0 e
-  ]
+  out-chosen = other-chosen form names k n w ty function none-picked
 
 -- Where all names are hidden ---------------------------------------------------------------------------------------
 
@@ -169,6 +178,25 @@ module _ (form : ℕ → Form) (names : List ℕ) (args : ℕ → List (List ℕ
         )
         (shut-below t (g 0) _ (map raw (flats f) ++ rs) (chosen-shut (headOf t) (g 0) (s 0)) (λ i. inner-shut (headOf t) (tyOf t) (g 0) i (s 0))
         ∙ ap (λ (l : List (List ℕ)). map raw (flat t) ++ l) (shut-trees f (λ i. g (suc i)) ms rs (λ i. s (suc i))))
+
+-- One name ---------------------------------------------------------------------------------------------------------
+
+pub one-picked : (y x : ℕ) → x ≡ y → pick (y ∷ []) 0 x ≡ some 0
+unfolding pick low
+one-picked y x e = rw (eq-eqb x y e) refl
+
+pub one-unpicked : (y x : ℕ) → (x ≡ y → ⊥) → pick (y ∷ []) 0 x ≡ none
+unfolding pick next
+one-unpicked y x e = rw (ne-eqb x y e) refl
+
+pub one-among : (y : ℕ) (ps : List Param) → told (find ps y) ≡ true → Among (y ∷ []) ps
+one-among y ps e zero h = e
+one-among y ps e (suc j) h = absurd (omega arith)
+
+-- a function that does not bind it
+pub one-bare : (form : ℕ → Form) (y k n w ty : ℕ) → k ≡ 6 → told (find (params (form ty)) y) ≡ false → mark (binds form (headFrom k n w) ty) (y ∷ []) 0 ≡ 0
+unfolding mark low rest _∨ᵇ_
+one-bare form y k n w ty e h = rw (binds-fun form k n w ty y e ∙ h) refl
 
 -- A turn -----------------------------------------------------------------------------------------------------------
 

@@ -3,7 +3,7 @@ use layout::Found;
 use layout::Row;
 use rules::names::Named;
 ghost use mathlib.Core.Path.{_≡_};
-ghost use mathlib.Core.List.{_++_};
+ghost use mathlib.Core.List.{[], _∷_, _++_};
 ghost use Prim.Native.Nat.{ℕ, _+_, _*_, _-_, _≤_, _<_};
 ghost use mathlib.Core.Bool.{true, false};
 ghost use lib.ListN.{length, getD, set, take, drop};
@@ -736,6 +736,83 @@ pub fn put_once(
         return put_near(types, rows, body, names, bounds, to);
     }
     put_far(types, rows, body, names, bounds, to)
+}
+
+// What a pass does at a row where one name is put, for which rows from a to before b stand.
+fn turn_one(types: &[u8], x: u16, a: usize, b: usize, r: Row) -> Turn
+    ensures { λ t. ⌜ Turns (formOf (typeTable (now (types .entry)))) (x ∷ []) (a ∷ b ∷ []) (rowOf (numbers r)) t ⌝ }
+{
+    let k = r.kind;
+    if k == 6 {
+        if has_name(types, r.ty, layout::word_of(x)) {
+            return Turn::Whole;
+        }
+        return Turn::Stands;
+    }
+    if r.word == layout::word_of(x) {
+        if k == 5 {
+            return Turn::Puts(a, b);
+        }
+        if k == 19 {
+            return Turn::Mixed;
+        }
+    }
+    Turn::Stands
+}
+
+// One name put in one pass, row by row: as `put_near`, with the name and the rows that are put for it in registers. Where a let hides the name, it
+// knows nothing.
+pub fn put_one(types: &[u8], rows: &[u8], body: usize, x: u16, arg: Span, to: &mut [u8]) -> Pass
+    requires { ⌜ Ready (rowTable (now rows)) body (x ∷ []) (arg .from ∷ arg .to ∷ []) × Exact (rowTable (now rows)) × (length (now to) ≤ 32768) ⌝ }
+    ensures { λ p. ⌜ Passes (formOf (typeTable (now (types .entry)))) (rowTable (now (rows .entry))) body (x ∷ []) (arg .from ∷ arg .to ∷ []) (rowTable (now (to .exit))) p ⌝ }
+{
+    let room = layout::term_rows(to);
+    let a = arg.from;
+    let b = arg.to;
+    let mut owed: usize = 1;
+    let mut i = body;
+    let mut from = body;
+    let mut w: usize = 0;
+    while 0 < owed {
+        let r = layout::row_at(rows, i);
+        let t = turn_one(types, x, a, b, r);
+        match t {
+            Turn::Stands => {
+                owed = owed - 1 + terms::children(r);
+                i += 1;
+            }
+            Turn::Whole => {
+                owed -= 1;
+                i = terms::end_of(rows, i);
+            }
+            Turn::Puts(c, d) => {
+                let n = (i - from) + (d - c);
+                if room < w + n {
+                    return Pass::Unknown;
+                }
+                copy_both(
+                    to,
+                    w,
+                    rows,
+                    Span { from: from, to: i },
+                    Span { from: c, to: d },
+                );
+                owed = owed - 1 + terms::children(r);
+                w += n;
+                i += 1;
+                from = i;
+            }
+            Turn::Mixed => {
+                return Pass::Unknown;
+            }
+        }
+    }
+    let n = i - from;
+    if room < w + n {
+        return Pass::Unknown;
+    }
+    copy_rows(to, w, rows, from, n);
+    Pass::Made(i, w + n)
 }
 
 // A new row, the i-th of a table.

@@ -5,6 +5,7 @@ use crate::puts;
 use crate::zips;
 use layout::Row;
 use put::Pass;
+use put::Span;
 ghost use mathlib.Core.Path.{_≡_};
 ghost use mathlib.Core.Bool.{true};
 ghost use Prim.Native.Nat.{ℕ, _≤_};
@@ -78,8 +79,7 @@ fn tie_once(types: &[u8], rows: &[u8], to: &mut [u8]) -> Pass
     let r = places::row_of(rows, 0);
     let old = terms::end_of(rows, 0);
     let c = places::row_of(rows, 1);
-    let names = [put::param_name(types, c.ty, 0)];
-    let bounds = [0, old as u16];
+    let name = put::param_name(types, c.ty, 0);
     put::write_row(
         to,
         0,
@@ -90,7 +90,14 @@ fn tie_once(types: &[u8], rows: &[u8], to: &mut [u8]) -> Pass
             word: 0,
         },
     );
-    let x = put::put_once(types, rows, 2, &names, &bounds, &mut to[layout::TERM_ROW..]);
+    let x = put::put_one(
+        types,
+        rows,
+        2,
+        name,
+        Span { from: 0, to: old },
+        &mut to[layout::TERM_ROW..],
+    );
     match x {
         Pass::Made(e, new) => Pass::Made(old, new + 1),
         Pass::Unknown => Pass::Unknown,

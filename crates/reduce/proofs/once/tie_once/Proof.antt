@@ -48,52 +48,45 @@ tie-once-spec =
     let F = formOf (typeTable (s .args .types .now)) in
     let u = ap (λ (r : List ℕ). typeNo r) (c .row-of2 .ensures) in
     omega (arith, some-bound _ (s .pre .1 .2), ap (λ (t : ℕ). length (params (F t))) u))
-    -- cast-t14
-    (λ c.
-    let s = c .before .before .before .before .before .before .before .before in
-    let R = s .pre .0 in
-    omega (arith, R .few, R .inside, c .before .before .end-of .ensures, ap size (tree-at-zero (termRows (s .args .rows .now)))))
     (λ c κs. search needs)
     (λ c. search needs)
     (λ c. search needs)
     (λ c. search needs)
-    (λ c. search needs)
-    (λ c. search needs)
-    -- put-once-requires
+    -- put-one-requires
     (λ c κs.
-    let s = c .before .before .before .before .before .before .before .before .before .before .before .before .before .before .before in
+    let s = c .before .before .before .before .before .before .before .before .before .before .before .before .before in
     let T = rowTable (s .args .rows .now) in
     let R = s .pre .0 in
     let F = formOf (typeTable (s .args .types .now)) in
-    let old : c .before .before .before .before .before .before .before .before .before .end-of .result ≡ size (treeOf (termRows (s .args .rows .now))) = c .before .before .before .before .before .before .before .before .before .end-of .ensures ∙ omega (arith, ap size (tree-at-zero (termRows (s .args .rows .now)))) in
-    let d = tie-puts T (R .exact) (R .inside) (R .few) F (s .pre .1) _ _ _ [] [] (ap (λ (r : List ℕ). typeNo r) (c .before .before .before .before .before .before .before .before .row-of2 .ensures)) (c .before .before .before .before .before .before .before .param-name .ensures) old in
+    let old : c .before .before .before .before .before .before .before .end-of .result ≡ size (treeOf (termRows (s .args .rows .now))) = c .before .before .before .before .before .before .before .end-of .ensures ∙ omega (arith, ap size (tree-at-zero (termRows (s .args .rows .now)))) in
+    let d = tie-puts T (R .exact) (R .inside) (R .few) F (s .pre .1) _ _ _ [] [] (ap (λ (r : List ℕ). typeNo r) (c .before .before .before .before .before .before .row-of2 .ensures)) (c .before .before .before .before .before .param-name .ensures) old in
     (d .ready, R .exact, search needs))
     (λ c. search needs)
-    -- add-t27
+    -- add-t22
     (λ c.
-    let s = c .before .before .before .before .before .before .before .before .before .before .before .before .before .before .before .before .before .before .before .before .before in
+    let s = c .before .before .before .before .before .before .before .before .before .before .before .before .before .before .before .before .before .before .before in
     let T = rowTable (s .args .rows .now) in
     let R = s .pre .0 in
-    omega (arith, pass-few (formOf (typeTable (s .args .types .now))) T _ _ _ _ _ _ _ (R .few) (c .before .before .before .before .before .put-once .ensures) (c .before .x .given .1)))
+    omega (arith, pass-few (formOf (typeTable (s .args .types .now))) T _ _ _ _ _ _ _ (R .few) (c .before .before .before .before .before .put-one .ensures) (c .before .x .given .1)))
     (λ c. search needs)
     (λ c. search needs)
     -- returns-2
     (λ c.
-    let s = c .before .before .before .before .before .before .before .before .before .before .before .before .before .before .before .before .before .before .before .before .before in
+    let s = c .before .before .before .before .before .before .before .before .before .before .before .before .before .before .before .before .before .before .before in
     let T = rowTable (s .args .rows .now) in
     let R = s .pre .0 in
     let F = formOf (typeTable (s .args .types .now)) in
-    let u = c .before .before .before .before .before .before .before .before .before .before .before .write-row .last .0 in
-    let k : length u ≡ length (s .args .to .now) = c .before .before .before .before .before .before .before .before .before .before .before .write-row .kept .0 in
-    let x : List ℕ = 6 ∷ 0 ∷ c .before .before .before .before .before .before .before .before .before .before .before .before .before .before .before .before .row-of .result .ty ∷ 0 ∷ [] in
-    let f = filled-row (rowTable (s .args .to .now)) (rowTable u) [] 0 x refl (omega (arith, c .before .before .before .before .before .before .before .before .before .before .before .before .before .before .before .before .before .if1 .left, row-table-length (s .args .to .now))) (c .before .before .before .before .before .before .before .before .before .before .before .write-row .ensures) in
-    let g = f ∙ ap (λ (t : ℕ). (6 ∷ 0 ∷ t ∷ 0 ∷ []) ∷ []) (sym (ap (λ (r : List ℕ). typeNo r) (c .before .before .before .before .before .before .before .before .before .before .before .before .before .before .before .before .row-of .ensures))) in
-    let e = tail-lent u (c .before .before .before .before .before .put-once .last .1 .1 .1 .1 .1 .0) (tieRow T) _ (length u - 8) (omega (arith, c .before .before .before .before .before .before .before .before .before .before .before .before .before .before .before .before .before .if1 .left, k)) g refl (omega arith) in
-    let old : c .before .before .before .before .before .before .before .before .before .before .before .before .before .before .before .end-of .result ≡ size (treeOf (termRows (s .args .rows .now))) = c .before .before .before .before .before .before .before .before .before .before .before .before .before .before .before .end-of .ensures ∙ omega (arith, ap size (tree-at-zero (termRows (s .args .rows .now)))) in
-    let d = tie-puts T (R .exact) (R .inside) (R .few) F (s .pre .1) _ _ _ [] [] (ap (λ (r : List ℕ). typeNo r) (c .before .before .before .before .before .before .before .before .before .before .before .before .before .before .row-of2 .ensures)) (c .before .before .before .before .before .before .before .before .before .before .before .before .before .param-name .ensures) old in
-    tied-once F T _ _ d _ _ _ _ _ (c .before .before .before .before .before .put-once .ensures) (c .before .x .given .1) e old)
+    let u = c .before .before .before .before .before .before .before .before .before .write-row .last .0 in
+    let k : length u ≡ length (s .args .to .now) = c .before .before .before .before .before .before .before .before .before .write-row .kept .0 in
+    let x : List ℕ = 6 ∷ 0 ∷ c .before .before .before .before .before .before .before .before .before .before .before .before .before .before .row-of .result .ty ∷ 0 ∷ [] in
+    let f = filled-row (rowTable (s .args .to .now)) (rowTable u) [] 0 x refl (omega (arith, c .before .before .before .before .before .before .before .before .before .before .before .before .before .before .before .if1 .left, row-table-length (s .args .to .now))) (c .before .before .before .before .before .before .before .before .before .write-row .ensures) in
+    let g = f ∙ ap (λ (t : ℕ). (6 ∷ 0 ∷ t ∷ 0 ∷ []) ∷ []) (sym (ap (λ (r : List ℕ). typeNo r) (c .before .before .before .before .before .before .before .before .before .before .before .before .before .before .row-of .ensures))) in
+    let e = tail-lent u (c .before .before .before .before .before .put-one .last .1 .1 .1 .1 .1 .0) (tieRow T) _ (length u - 8) (omega (arith, c .before .before .before .before .before .before .before .before .before .before .before .before .before .before .before .if1 .left, k)) g refl (omega arith) in
+    let old : c .before .before .before .before .before .before .before .before .before .before .before .before .before .end-of .result ≡ size (treeOf (termRows (s .args .rows .now))) = c .before .before .before .before .before .before .before .before .before .before .before .before .before .end-of .ensures ∙ omega (arith, ap size (tree-at-zero (termRows (s .args .rows .now)))) in
+    let d = tie-puts T (R .exact) (R .inside) (R .few) F (s .pre .1) _ _ _ [] [] (ap (λ (r : List ℕ). typeNo r) (c .before .before .before .before .before .before .before .before .before .before .before .before .row-of2 .ensures)) (c .before .before .before .before .before .before .before .before .before .before .before .param-name .ensures) old in
+    tied-once F T _ _ d _ _ _ _ _ (c .before .before .before .before .before .put-one .ensures) (c .before .x .given .1) e old)
     (λ c. search needs)
     -- returns-3
     (λ c.
-    let s = c .before .before .before .before .before .before .before .before .before .before .before .before .before .before .before .before .before .before .before .before in
+    let s = c .before .before .before .before .before .before .before .before .before .before .before .before .before .before .before .before .before .before in
     unknown-once (formOf (typeTable (s .args .types .now))) (rowTable (s .args .rows .now)) _))
