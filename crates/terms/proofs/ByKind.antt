@@ -11,9 +11,9 @@ use borrow.Author.Tests.{ne-eqb, le-leb, lt-leb, lt-ltb, le-ltb}
 use lib.ListN.{getD, drop, List·getD-eq-default}
 use Rattle.layout.proofs.Laws.{term-row}
 use Rattle.meaning.specs.Bytes.{number, read, termRow, _∧ᵇ_, within}
-use Rattle.meaning.specs.Terms.{lit, str, arity, headFrom, kindNo, nNo, wordNo, rowOf, Fields, words-from, none-used, kindFields, lastKind, withinOne, fits, rowFault}
+use Rattle.meaning.specs.Terms.{lit, str, arity, headFrom, kindNo, nNo, typeNo, wordNo, rowOf, Fields, words-from, none-used, kindFields, lastKind, withinOne, fits, rowFault}
 use Rattle.meaning.specs.declared.Fault.the-variants.{Kind, Field, Number}
-use Rattle.terms.specs.Tables.{childTable}
+use Rattle.terms.specs.Tables.{lowTable, highTable, leastTable, mostTable, childTable}
 
 -- a fact of each number below n, by its cases
 abbrev pub Below : (ℕ → Type 0) → ℕ → Type 0
@@ -184,3 +184,22 @@ module _ (edition count k n t w : ℕ) where
 
       pub no-fault : b ≡ true → t < count → rowFault edition count (k ∷ n ∷ t ∷ w ∷ []) ≡ none
       no-fault f z = known ∙ rw (← e, f, lt-ltb t count z) refl
+
+-- Ranges by tables -----------------------------------------------------------------------------------------------
+
+abbrev rangeAt : ℕ → Fields
+rangeAt k = record { nLow = getD lowTable k 0; nHigh = getD highTable k 0; words = words-from (getD leastTable k 0) (getD mostTable k 0) }
+
+abbrev Ranged : ℕ → Type 0
+Ranged k = rangeAt k ≡ getD kindFields k none-used
+
+ranged-at : Below Ranged 20
+ranged-at = ((((((((((((((((((((tt, refl), refl), refl), refl), refl), refl), refl), refl), refl), refl), refl), refl), refl), refl), refl), refl), refl), refl), refl), refl)
+
+pub ranged-by : (k : ℕ) → k < 20 → Ranged k
+ranged-by k h = below Ranged 20 ranged-at k h
+
+-- a row in range
+pub row-sane : (edition count : ℕ) (r : List ℕ) → lastKind edition ≡ 19 → (kindNo r ≡ 0 → ⊥) → kindNo r < 20 → fits (getD kindFields (kindNo r) none-used) r ≡ true → typeNo r < count → rowFault edition count r ≡ none
+unfolding rowFault within _∧ᵇ_
+row-sane edition count r e kind few f t = rw (e, le-leb 1 (kindNo r) (omega (arith, kind)), le-leb (kindNo r) 19 (omega (arith, few)), f, lt-ltb (typeNo r) count t) refl

@@ -14,6 +14,19 @@ use Rattle.terms.specs.declared.Faulty.the-variants as variants
 abbrev pub childTable : List ℕ
 childTable = 0 ∷ 0 ∷ 0 ∷ 0 ∷ 0 ∷ 0 ∷ 1 ∷ 0 ∷ 65 ∷ 0 ∷ 3 ∷ 1 ∷ 0 ∷ 2 ∷ 1 ∷ 1 ∷ 64 ∷ 1 ∷ 1 ∷ 2 ∷ []
 
+-- by kind, the ranges of n and word that `kindFields` states
+abbrev pub lowTable : List ℕ
+lowTable = 0 ∷ 0 ∷ 0 ∷ 0 ∷ 0 ∷ 0 ∷ 0 ∷ 0 ∷ 0 ∷ 0 ∷ 0 ∷ 0 ∷ 0 ∷ 0 ∷ 0 ∷ 1 ∷ 1 ∷ 1 ∷ 1 ∷ 0 ∷ []
+
+abbrev pub highTable : List ℕ
+highTable = 0 ∷ 0 ∷ 0 ∷ 0 ∷ 0 ∷ 0 ∷ 0 ∷ 0 ∷ 8 ∷ 0 ∷ 0 ∷ 0 ∷ 0 ∷ 0 ∷ 0 ∷ 255 ∷ 8 ∷ 8 ∷ 8 ∷ 0 ∷ []
+
+abbrev pub leastTable : List ℕ
+leastTable = 0 ∷ 0 ∷ 0 ∷ 0 ∷ 0 ∷ 1 ∷ 0 ∷ 1 ∷ 0 ∷ 1 ∷ 0 ∷ 0 ∷ 0 ∷ 0 ∷ 0 ∷ 0 ∷ 0 ∷ 0 ∷ 0 ∷ 1 ∷ []
+
+abbrev pub mostTable : List ℕ
+mostTable = 0 ∷ 4294967295 ∷ 4294967295 ∷ 0 ∷ 0 ∷ 65535 ∷ 0 ∷ 65535 ∷ 0 ∷ 65535 ∷ 0 ∷ 0 ∷ 0 ∷ 0 ∷ 0 ∷ 0 ∷ 0 ∷ 0 ∷ 0 ∷ 65535 ∷ []
+
 -- row i has two children, and the row behind it is there and has none: a cons with a head of one row
 pub record Links (s : List ℕ) (i : ℕ) : Type 0 where
   pub there : 8 * i + 16 ≤ length s

@@ -8,11 +8,12 @@ use meaning::Fault;
 use meaning::Shape;
 ghost use mathlib.Core.Path.{_≡_};
 ghost use mathlib.Core.Bool.{true};
-ghost use Prim.Native.Nat.{_+_, _*_, _/_, _≤_};
-ghost use lib.ListN.{length};
+ghost use Prim.Native.Nat.{_+_, _*_, _/_, _≤_, _<_};
+ghost use lib.ListN.{length, getD};
 ghost use Rattle.layout.specs.Rows.{numbers, rowTable, termRows};
-ghost use Rattle.meaning.specs.Terms.{arity, rowOf, size, treeAt, rowFault, shape, lastKind};
-ghost use Rattle.terms.specs.Tables.{childTable, Links, faultOf, hop, HopsIn, Closed, Ends};
+ghost use Rattle.meaning.specs.Terms.{arity, rowOf, size, treeAt, fits, none-used, kindFields, rowFault, shape, lastKind};
+ghost use Rattle.meaning.specs.declared.Shape.the-variants.{Whole};
+ghost use Rattle.terms.specs.Tables.{lowTable, highTable, leastTable, mostTable, childTable, Links, faultOf, hop, HopsIn, Closed, Ends};
 
 // Whether a row's kind, fields and type number are in range.
 pub enum Faulty {
@@ -114,11 +115,95 @@ pub fn row_fault(r: Row, count: u16, edition: u16) -> Faulty
     }
 }
 
+// By kind, the ranges of n and word: the least and the greatest n, the least and the greatest word.
+const N_LEAST: [u8; 20] = [0, 0, 0, 0, 0, 0, 0, 0, 0, 0, 0, 0, 0, 0, 0, 1, 1, 1, 1, 0];
+
+const N_MOST: [u8; 20] = [0, 0, 0, 0, 0, 0, 0, 0, 8, 0, 0, 0, 0, 0, 0, 255, 8, 8, 8, 0];
+
+const WORD_LEAST: [u32; 20] = [0, 0, 0, 0, 0, 1, 0, 1, 0, 1, 0, 0, 0, 0, 0, 0, 0, 0, 0, 1];
+
+const WORD_MOST: [u32; 20] = [
+    0,
+    4294967295,
+    4294967295,
+    0,
+    0,
+    65535,
+    0,
+    65535,
+    0,
+    65535,
+    0,
+    0,
+    0,
+    0,
+    0,
+    0,
+    0,
+    0,
+    0,
+    65535,
+];
+
+// Whether a row's kind and fields are in range, by these tables.
+fn ranged(low: &[u8], high: &[u8], least: &[u32], most: &[u32], r: Row) -> bool
+    requires { ⌜ (now low ≡ lowTable) × (now high ≡ highTable) × (now least ≡ leastTable) × (now most ≡ mostTable) ⌝ }
+    ensures { λ b. ⌜ (b ≡ true → (r .kind < 20) × (fits (getD kindFields (r .kind) none-used) (numbers r) ≡ true)) ⌝ }
+{
+    let k = r.kind as usize;
+    if 19 < k {
+        return false;
+    }
+    fields::within(r, low[k], high[k], least[k], most[k])
+}
+
+// Whether the rows are seen at once to be one whole tree, each row in range: no row is taken apart by its kind.
+fn whole_at_once(rows: &[u8], count: u16, edition: u16) -> bool
+    requires { ⌜ length (now rows) ≤ 32768 ⌝ }
+    ensures { λ b. ⌜ (b ≡ true → shape edition count (rowTable (now (rows .entry))) ≡ Whole) ⌝ }
+{
+    if last_kind(edition) != 19 {
+        return false;
+    }
+    let low = N_LEAST;
+    let high = N_MOST;
+    let least = WORD_LEAST;
+    let most = WORD_MOST;
+    let table = CHILDREN;
+    let all = layout::term_rows(rows);
+    let mut owed: usize = 1;
+    let mut i: usize = 0;
+    while i < all {
+        let r = layout::row_at(rows, i);
+        if owed == 0 {
+            return false;
+        }
+        if r.kind == 0 {
+            return false;
+        }
+        if count <= r.ty {
+            return false;
+        }
+        if !ranged(&low, &high, &least, &most, r) {
+            return false;
+        }
+        owed = owed - 1 + listed(&table, r);
+        i += 1;
+    }
+    if owed == 0 {
+        return true;
+    }
+    false
+}
+
 // Whether the rows are one whole tree, each row in range; else the first fault.
 pub fn check_shape(rows: &[u8], count: u16, edition: u16) -> Shape
     requires { ⌜ length (now rows) ≤ 32768 ⌝ }
     ensures { λ r. ⌜ r ≡ shape edition count (rowTable (now (rows .entry))) ⌝ }
 {
+    if whole_at_once(rows, count, edition) {
+        return Shape::Whole;
+    }
     let all = layout::term_rows(rows);
     let mut owed: usize = 1;
     let mut i: usize = 0;
