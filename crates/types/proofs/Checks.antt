@@ -1,12 +1,13 @@
 -- A turn of each loop over a type row or the table. Assumes nothing.
-use Prim.Native.Nat.{ℕ, zero, suc, _+_, _*_, _<_, _≤_}
+use Prim.Native.Nat.{ℕ, zero, suc, _+_, _*_, _<_, _≤_, max}
 use mathlib.Core.Path.{_≡_, refl, ap, sym, _∙_}
 use mathlib.Core.Bool.{Bool, true, false}
 use mathlib.Core.List.{List, _∷_}
 use native.Mathlib.Omega.{arith}
-use native.Mathlib.Decide.{ℕ-discrete}
+use native.Mathlib.Decide.{ℕ-discrete, decLt}
 use native.Mathlib.Numerals.{add-one}
 use borrow.Author.Tests.{eq-eqb, ne-eqb, lt-ltb, le-ltb, le-leb, lt-leb}
+use lib.Dec.{eqb}
 use lib.ListN.{length, drop, getD, drop-of-length-le, List·getD-eq-default}
 use lib.Seq.{drop-cons}
 use Rattle.meaning.specs.Bytes.{_∧ᵇ_, within, zeros}
@@ -102,6 +103,46 @@ module _ (r : List ℕ) (z : length r ≡ 19) (k : ℕ) where
 
   pub rest-end : 8 ≤ k → zeros (drop (3 + 2 * k) r) ≡ true
   rest-end h = zeros-end r (3 + 2 * k) (omega arith)
+
+-- one pair more, where those behind the first n count and the greatest so far is known
+pub rest-step : (r : List ℕ) (z : length r ≡ 19) (n k most w : ℕ) → k < 8 → (k < n → w ≡ 0) → (n ≤ k → PairWord r k w)
+    → (eqb most 0 ∧ᵇ zeros (drop (3 + 2 * max n k) r)) ≡ zeros (drop (3 + 2 * n) r) → (eqb (max most w) 0 ∧ᵇ zeros (drop (3 + 2 * max n (k + 1)) r)) ≡ zeros (drop (3 + 2 * n) r)
+unfolding _∧ᵇ_
+rest-step r z n k most w few none pair inv = elim (decLt k n) [ yes h ↦ early h | no h ↦ late (omega arith) ]
+  where
+    never : (b : Bool) → (b ∧ᵇ false) ≡ false
+    never true = refl
+    never false = refl
+
+    early : k < n → (eqb (max most w) 0 ∧ᵇ zeros (drop (3 + 2 * max n (k + 1)) r)) ≡ zeros (drop (3 + 2 * n) r)
+    early h =
+        let a : max most w ≡ most = omega (arith, none h) in
+        let b : max n (k + 1) ≡ max n k = omega arith in
+        rw (a, b) inv
+
+    late : n ≤ k → (eqb (max most w) 0 ∧ᵇ zeros (drop (3 + 2 * max n (k + 1)) r)) ≡ zeros (drop (3 + 2 * n) r)
+    late h =
+        let p = pair h in
+        let m : max n k ≡ k = omega arith in
+        let m1 : max n (k + 1) ≡ k + 1 = omega arith in
+        let i : (eqb most 0 ∧ᵇ zeros (drop (3 + 2 * k) r)) ≡ zeros (drop (3 + 2 * n) r) = ap (λ (j : ℕ). eqb most 0 ∧ᵇ zeros (drop (3 + 2 * j) r)) (sym m) ∙ inv in
+        elim (ℕ-discrete w 0) [
+          | yes q ↦ let a : max most w ≡ most = omega (arith, q) in rw (a, m1) (ap (λ (b : Bool). eqb most 0 ∧ᵇ b) (sym (rest-on r z k w few p q)) ∙ i)
+          | no f ↦ let e : eqb (max most w) 0 ≡ false = ne-eqb (max most w) 0 (omega (arith, f)) in rw e (sym (never (eqb most 0)) ∙ ap (λ (b : Bool). eqb most 0 ∧ᵇ b) (sym (rest-no r z k w few p f)) ∙ i)
+        ]
+
+-- before the first pair, and behind the last
+pub rest-none : (r : List ℕ) (n : ℕ) → (eqb 0 0 ∧ᵇ zeros (drop (3 + 2 * max n 0) r)) ≡ zeros (drop (3 + 2 * n) r)
+unfolding _∧ᵇ_
+rest-none r n = let a : max n 0 ≡ n = omega arith in ap (λ (i : ℕ). zeros (drop (3 + 2 * i) r)) a
+
+pub rest-all : (r : List ℕ) (z : length r ≡ 19) (n k most : ℕ) → 8 ≤ k → (eqb most 0 ∧ᵇ zeros (drop (3 + 2 * max n k) r)) ≡ zeros (drop (3 + 2 * n) r) → eqb most 0 ≡ zeros (drop (3 + 2 * n) r)
+unfolding _∧ᵇ_
+rest-all r z n k most h inv = always (eqb most 0) ∙ ap (λ (b : Bool). eqb most 0 ∧ᵇ b) (sym (rest-end r z (max n k) (omega arith))) ∙ inv
+  where
+    always : (b : Bool) → b ≡ (b ∧ᵇ true)
+    always true = refl
+    always false = refl
 
 -- Fields by form -------------------------------------------------------------------------------------------------
 

@@ -1,7 +1,7 @@
 // The type table: what a type row says, which types are ground, and the first bad row.
 use layout::Found;
 ghost use mathlib.Core.Path.{_≡_};
-ghost use Prim.Native.Nat.{_+_, _*_, _≤_, _<_};
+ghost use Prim.Native.Nat.{_+_, _*_, _≤_, _<_, max};
 ghost use lib.ListN.{length, drop, set};
 ghost use Rattle.meaning.specs.Bytes.{zeros};
 ghost use Rattle.meaning.specs.Types.{parts, every, below, member, sameNumbers, formOf, ground, lastForm, plainOk, listOk, tupleOk, namesOk, functionOk, fieldsOk, fresh, groundCall, badType};
@@ -47,19 +47,40 @@ fn pair_word(types: &[u8], t: usize, k: usize) -> u32
     layout::name_no(types, t, k) as u32 + 65536 * layout::type_no(types, t, k) as u32
 }
 
-// Behind the first n pairs of row t all is zero.
+// The greater of two numbers.
+fn greater(a: u32, b: u32) -> u32
+    ensures { λ r. ⌜ r ≡ max a b ⌝ }
+{
+    if a < b {
+        return b;
+    }
+    a
+}
+
+// The k-th pair as one number, if it stands behind the first n.
+fn pair_behind(types: &[u8], t: usize, n: usize, k: usize) -> u32
+    requires { ⌜ (36 * t + 36 ≤ length (now types)) × (k < 8) ⌝ }
+    ensures { λ w. ⌜ (k < n → w ≡ 0) × (n ≤ k → PairWord (typeAt (now (types .entry)) t) k w) ⌝ }
+{
+    if n <= k {
+        return pair_word(types, t, k);
+    }
+    0
+}
+
+// Behind the first n pairs of row t all is zero: the greatest is. All eight have a turn, since a loop that ends by n ends where the processor cannot
+// foresee it.
 fn rest_zero(types: &[u8], t: usize, n: usize) -> bool
     requires { ⌜ 36 * t + 36 ≤ length (now types) ⌝ }
     ensures { λ b. ⌜ b ≡ zeros (drop (3 + 2 * n) (typeAt (now (types .entry)) t)) ⌝ }
 {
-    let mut k = n;
+    let mut most: u32 = 0;
+    let mut k = 0;
     while k < 8 {
-        if pair_word(types, t, k) != 0 {
-            return false;
-        }
+        most = greater(most, pair_behind(types, t, n, k));
         k += 1;
     }
-    true
+    most == 0
 }
 
 // The first n names of row t are zero.
