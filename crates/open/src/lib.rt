@@ -3,13 +3,12 @@ use layout::ENTRY_ROW;
 use layout::ENTRY_TYPE_AT;
 use layout::ENTRY_ZEROS_AT;
 ghost use mathlib.Core.Path.{_≡_};
-ghost use mathlib.Core.Bool.{Bool};
 ghost use mathlib.Core.List.{_++_, _∷_, [], map};
 ghost use Prim.Native.Nat.{_+_, _*_, _≤_, _<_};
 ghost use lib.ListN.{length, take, drop};
 ghost use lib.Seq.{sets};
 ghost use Rattle.meaning.specs.Bytes.{reads, write, writes, padded, entryRow};
-ghost use Rattle.meaning.specs.Records.{entryOf, rawEntry, listed, rises};
+ghost use Rattle.meaning.specs.Records.{entryOf, rawEntry, listed};
 ghost use Rattle.meaning.specs.Entries.{without};
 ghost use Rattle.open.specs.Open.{call, Lists, told, opened};
 
@@ -62,25 +61,6 @@ impl OpenList {
             i += 1;
         }
         Listed::Nothing
-    }
-
-    // Each number is above the one before it, the first above 0.
-    pub fn rising(self) -> bool
-        requires { ⌜ self .count ≤ 64 ⌝ }
-        ensures { λ r. ⌜ r ≡ rises 0 (opened self) ⌝ }
-    {
-        let n = self.count;
-        let mut low: u32 = 0;
-        let mut i: usize = 0;
-        while i < n {
-            let e = self.entries[i];
-            if e.number <= low {
-                return false;
-            }
-            low = e.number;
-            i += 1;
-        }
-        true
     }
 
     // Where the number first stands, or the count where it is not listed.
