@@ -1,43 +1,51 @@
 // The bench runner: a program file from standard input, loaded and run once with budget 1,000; one line to standard output.
 #![tactic(auto)]
 
-// A number, and the byte behind it.
-fn tell(n: u32, behind: &[u8]) {
-    io::print_decimal(1, n as u64);
-    io::write_all(1, behind);
-}
+ghost use Rattle.std.specs.Prelude.{◌≤◌, length, IfOk};
 
-fn refused(number: u32, place: u32) {
-    io::write_all(1, b"refused ");
-    tell(number, b" ");
-    tell(place, b"\n");
-}
+use std::io;
+use std::io::Read;
 
 // What comes of a file: `answer steps rows`, or `refused number place`.
-fn play(file: &[u8], kept: &mut [u8], work: &mut [u8]) {
+fn play(rt: &HostRuntime, file: &[u8], kept: &mut [u8], work: &mut [u8]) -> io::Result<()> {
     let v = tca::tca_load(file, kept);
     if v.refusal != 0 {
-        refused(v.refusal, v.place);
-        return;
+        println!(rt; "refused {} {}", v.refusal, v.place)?;
+        return Ok(());
     }
     let a = tca::run::tca_run(kept, work, 1000);
     if a.refusal != 0 {
-        refused(a.refusal, 0);
-        return;
+        println!(rt; "refused {} 0", a.refusal)?;
+        return Ok(());
     }
     if kept.len() < layout::RECORD_HEAD {
-        return;
+        return Ok(());
     }
-    tell(a.answer, b" ");
-    tell(a.steps, b" ");
-    tell(sound::head::row_count(kept) as u32, b"\n");
+    let rows = sound::head::row_count(kept);
+    println!(rt; "{} {} {}", a.answer, a.steps, rows)
+}
+
+// Bytes are read until the buffer is full or the input ends; how many.
+fn read_full(input: &mut impl Read, buf: &mut [u8]) -> io::Result<usize>
+    ensures { IfOk result (λ n. n ≤ length buf.old) }
+{
+    let mut n: usize = 0;
+    while n < buf.len() {
+        let got = input.read(&mut buf[n..])?;
+        if got == 0 {
+            return Ok(n);
+        }
+        n += got;
+    }
+    Ok(n)
 }
 
 // One byte more is read than the longest program has: whatever stands behind it, the length is not what the counts need.
-fn main() {
+fn main(rt: HostRuntime) -> io::Result<()> {
     let mut file = [0u8; 17419];
-    let n = io::read_full(0, &mut file);
+    let mut input = rt.stdin();
+    let n = read_full(&mut input, &mut file)?;
     let mut kept = [0u8; 26132];
     let mut work = [0u8; 16400];
-    play(&file[..n], &mut kept, &mut work);
+    play(&rt, &file[..n], &mut kept, &mut work)
 }

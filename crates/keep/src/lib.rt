@@ -1,5 +1,6 @@
 // A record renewed in place: its rows, or its open list and next number.
 #![tactic(auto)]
+
 ghost use Rattle.std.specs.Prelude.{◌≡◌, ◌+◌, ◌*◌, ◌≤◌, length, List};
 ghost use Rattle.meaning.specs.Bytes.{record_bytes};
 ghost use Rattle.layout.specs.Rows.{board};

@@ -1,5 +1,6 @@
 // Numbers and rows in lent bytes, by the layouts of the meaning: read by value, written, copied, cleared.
 #![tactic(auto)]
+
 ghost use Rattle.std.specs.Prelude.{◌≡◌, ◌++◌, ◌+◌, ◌*◌, ◌-◌, ◌/◌, ◌≤◌, ◌<◌, length, get_or, take, drop, replicate, [], ◌∷◌};
 ghost use Rattle.std.proofs.lemmas.List.Edits.{sets};
 ghost use Rattle.meaning.specs.Bytes.{number, spell, read, write, type_row, term_row, record_head, calls_at, rows_at, record_bytes};

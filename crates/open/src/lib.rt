@@ -1,5 +1,6 @@
 // The open list: an array of 64 entries and a count, a value between its reading from and its writing to a record.
 #![tactic(auto)]
+
 ghost use Rattle.std.specs.Prelude.{◌≡◌, ◌++◌, ◌∷◌, [], map, ◌+◌, ◌*◌, ◌≤◌, ◌<◌, length, take, drop};
 ghost use Rattle.std.proofs.lemmas.List.Edits.{sets};
 ghost use Rattle.meaning.specs.Bytes.{reads, write, writes, padded, entry_row};

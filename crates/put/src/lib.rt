@@ -1,5 +1,6 @@
 // Names put at once: a body's rows are copied, and for a name that is put and not hidden its argument's rows.
 #![tactic(auto)]
+
 ghost use Rattle.std.specs.Prelude.{◌≡◌, [], ◌∷◌, ◌++◌, ℕ, ◌+◌, ◌*◌, ◌-◌, ◌≤◌, ◌<◌, true, false, length, get_or, set, take, drop};
 ghost use Rattle.layout.specs.Rows.{numbers, found, type_table, row_table};
 ghost use Rattle.layout.specs.declared.Found.TheVariants.{At};

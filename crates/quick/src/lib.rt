@@ -1,5 +1,6 @@
 // A quick check of a table of rows: if it says yes, the rows are one whole tree and no row fails typing. Where it says no, nothing is known.
 #![tactic(auto)]
+
 mod dues;
 mod names;
 mod rows;

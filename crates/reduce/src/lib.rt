@@ -1,5 +1,6 @@
 // The rule of one row: what it makes of the tree that the rows are, counted and written.
 #![tactic(auto)]
+
 pub mod behind;
 pub mod once;
 pub mod places;

@@ -1,5 +1,6 @@
 // The rules of rows over the types that their children state, on a lent table of types.
 #![tactic(auto)]
+
 pub mod forms;
 pub mod kinds;
 pub mod names;

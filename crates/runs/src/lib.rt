@@ -1,5 +1,6 @@
 // A run: the steps of a sound record's term, made in the record's row space and the work buffer.
 #![tactic(auto)]
+
 ghost use Rattle.std.specs.Prelude.{◌≡◌, ℕ, ◌+◌, ◌*◌, ◌-◌, ◌≤◌, ◌<◌, true, false, List, [], ◌∷◌, ◌++◌, length, take, drop, replicate};
 ghost use Rattle.meaning.specs.Bytes.{number, write, term_row, record_bytes, arm};
 ghost use Rattle.meaning.specs.Records.{row_count as termCount, type_count, types_in};

@@ -307,11 +307,15 @@ module _ (n u : ℕ) (b : Tree) (B ts : List Tree) (e : length B ≡ n) where
 
   calm-call : is 7 b ≡ true → calm (not (zips (apply n) call)) (looks (apply n) call) (b ∷ B) ≡ values (kids n (B ++ ts))
   unfolding calm zips looks apply_looks kids first_is code behind ◌∧ᵇ◌
-  calm-call q = rw (kinds-differ 7 15 b q refl, kinds-differ 7 6 b q refl, q) (calm-values n B ts e)
+  calm-call q =
+      let z : zips (apply n) call ≡ false = kinds-differ 7 15 b q refl in
+      ap (λ (w : Bool). calm (not w) (looks (apply n) call) (b ∷ B)) z ∙ rw (kinds-differ 7 15 b q refl, kinds-differ 7 6 b q refl, q) (calm-values n B ts e)
 
   calm-zip : is 15 b ≡ true → calm (not (zips (apply n) call)) (looks (apply n) call) (b ∷ B) ≡ ready (n_of (head_of b)) (kids n (B ++ ts))
   unfolding calm zips looks apply_looks kids first_is code behind ◌∧ᵇ◌
-  calm-zip q = rw (kinds-differ 15 7 b q refl, kinds-differ 15 6 b q refl, q) (calm-ready n (n_of (head_of b)) B ts e)
+  calm-zip q =
+      let z : zips (apply n) call ≡ true = q in
+      ap (λ (w : Bool). calm (not w) (looks (apply n) call) (b ∷ B)) z ∙ rw (kinds-differ 15 7 b q refl, kinds-differ 15 6 b q refl, q) (calm-ready n (n_of (head_of b)) B ts e)
 
   module _ (form : ℕ → Form) (k : ℕ) (v : Bool) (d : Stands form k (record { head = apply n; type = u; before = b ∷ B; clear = v }) ts) where
     -- a call is sent if nothing in it is stuck

@@ -1,5 +1,6 @@
 // The search for the next step, in two lent buffers: the rows passed, the rows to come. It goes on where it stands: what was passed cannot step.
 #![tactic(auto)]
+
 ghost use Rattle.std.specs.Prelude.{◌≡◌, ◌+◌, ◌*◌, ◌-◌, ◌/◌, ◌≤◌, ◌<◌, true, eqb, ltb, length, get_or, drop};
 ghost use Rattle.layout.specs.Rows.{term_rows};
 ghost use Rattle.meaning.specs.Bytes.{◌∧ᵇ◌, read, term_row};

@@ -1,5 +1,6 @@
 // A reply taken: its rows for each future of its number, its entry out of the open list, the record written anew from the changed row on.
 #![tactic(auto)]
+
 use layout::{Limits, Row};
 
 pub mod verdict;

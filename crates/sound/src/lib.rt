@@ -1,5 +1,6 @@
 // When a run record is sound: a named test for each sentence of document 01.
 #![tactic(auto)]
+
 use layout::{Found, Limits, Row};
 use meaning::Shape;
 use open::OpenList;

@@ -1,5 +1,6 @@
 // Load: a program file is judged and, if accepted, written as a fresh record.
 #![tactic(auto)]
+
 use layout::{Found, Limits};
 use meaning::{Refusal, Shape};
 
@@ -144,8 +145,7 @@ pub fn load(file: &[u8], kept: &mut [u8]) -> meaning::Verdict
     }
 }
 
-#[unsafe(no_mangle)]
-pub extern "C" fn tca_load(file: &[u8], kept: &mut [u8]) -> Verdict
+pub fn tca_load(file: &[u8], kept: &mut [u8]) -> Verdict
     ensures { Tells file.now kept.old kept.new result }
 {
     let v = load(file, kept);

@@ -40,8 +40,7 @@ pub fn reply(kept: &mut [u8], work: &mut [u8], answer: &[u8]) -> Verdict
     }
 }
 
-#[unsafe(no_mangle)]
-pub extern "C" fn tca_reply(kept: &mut [u8], work: &mut [u8], answer: &[u8]) -> super::Verdict
+pub fn tca_reply(kept: &mut [u8], work: &mut [u8], answer: &[u8]) -> super::Verdict
     ensures { TellsReply kept.old work.old answer.now result kept.new work.new }
 {
     let v = reply(kept, work, answer);

@@ -22,12 +22,7 @@ pub fn run(kept: &mut [u8], work: &mut [u8], budget: u32) -> Run
     runs::run(kept, work, budget)
 }
 
-#[unsafe(no_mangle)]
-pub extern "C" fn tca_run(
-    kept: &mut [u8],
-    work: &mut [u8],
-    budget: u32,
-) -> super::figures::RunAnswer
+pub fn tca_run(kept: &mut [u8], work: &mut [u8], budget: u32) -> super::figures::RunAnswer
     ensures { TellsRun kept.old work.old budget result kept.new work.new }
 {
     let r = run(kept, work, budget);

@@ -1,6 +1,7 @@
 // Tables of term rows as trees: how many children a row has, whether a table is one whole tree (refusals 7 and 13), and where each
 // tree ends.
 #![tactic(auto)]
+
 pub mod fields;
 pub mod masks;
 

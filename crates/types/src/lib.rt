@@ -1,5 +1,6 @@
 // The type table: what a type row says, which types are ground, and the first bad row.
 #![tactic(auto)]
+
 ghost use Rattle.std.specs.Prelude.{◌≡◌, ◌+◌, ◌*◌, ◌≤◌, ◌<◌, max, length, drop, set};
 ghost use Rattle.meaning.specs.Bytes.{zeros};
 ghost use Rattle.meaning.specs.Types.{parts, every, below, member, same_numbers, form_of, ground, last_form, plain_ok, list_ok, tuple_ok, names_ok, function_ok, fields_ok, fresh, ground_call, bad_type};

@@ -1,5 +1,6 @@
 // The first row that fails typing: rows are judged in order, each by its own rule and the binders around it.
 #![tactic(auto)]
+
 mod names;
 mod scopes;
 pub mod stated;

@@ -128,7 +128,7 @@ module _ (form : ℕ → Form) (count : ℕ) (good : Promises form count) where
   scope-below (tuple n) u f h d i = refl
   scope-below (project j) u f h d i = refl
   scope-below (lproject j) u f h d i = refl
-  scope-below (bind x) u (more a (more b end)) h d zero = refl
+  scope-below (bind x) u (more (node g v k) (more b end)) h d zero = refl
   scope-below (bind x) u (more (node g v k) (more b end)) h (((l, _), _), _) (suc i) = both _ _ (below_of count v l) refl
 
   -- From the rows to a derivation ----------------------------------------------------------------------------------

@@ -1,0 +1,14 @@
+-- The loop's invariant: the rows written and those left to write are all.
+use mathlib.Core.Path.{◌≡◌}
+use Prim.Native.Nat.{◌-◌}
+use lib.ListN.{length}
+use Rattle.layout.specs.Rows.{type_table, row_table}
+use Rattle.meaning.specs.Types.{form_of}
+use Rattle.put.proofs.Loops.{Writing}
+use Rattle.put.proofs.write_masked.Given as goal
+
+abbrev pub invariant-loop-owed : goal.invariant-loop-owed
+invariant-loop-owed l = Writing (form_of (type_table l.types)) (row_table l.rows) l.body l.names l.bounds (row_table l.to) l.masks l.owed l.i l.w × (length l.to ≡ length l.initial.to)
+
+abbrev pub decreases-loop-owed : goal.decreases-loop-owed
+decreases-loop-owed l = length (row_table l.rows) - l.i

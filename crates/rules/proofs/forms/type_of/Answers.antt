@@ -1,0 +1,25 @@
+-- A type that has a part is in the table.
+use Prim.Native.Nat.{ℕ, ◌+◌, ◌*◌}
+use mathlib.Core.Path.{sym, ap, ◌∙◌}
+use mathlib.Core.List.{List}
+use lib.ListN.{get_or}
+use Rattle.rules.specs.Forms.{says}
+use Rattle.rules.proofs.Reading.{says-in, part_in, type-part}
+use native.Mathlib.Omega.{arith}
+use Rattle.rules.proofs.forms.type_of.Goals as goal
+
+pub type_no-requires : goal.type_no-requires
+type_no-requires c =
+    let args = c.args in
+    let pre = c.requires in
+    let q = part_in args.types.now args.t args.k pre in
+    omega (arith, q)
+
+pub returns : goal.returns
+returns c =
+    let args = c.args in
+    let pre = c.requires in
+    let type-no = c.type_no in
+    let says = says args.types.now args.t in
+    let q = part_in args.types.now args.t args.k pre in
+    type-no.ensures ∙ sym (type-part says args.k pre ∙ ap (λ (r : List ℕ). get_or r (4 + 2 * args.k) 0) (says-in args.types.now args.t q.0))

@@ -1,0 +1,64 @@
+-- The loop's invariant: the trees still owed from row i on end where the tree at row `at` ends.
+use Prim.Native.Nat.{ℕ, ◌+◌, ◌-◌}
+use mathlib.Core.Path.{◌≡◌, sym, ap, ◌∙◌}
+use Rattle.layout.specs.Rows.{numbers, term_rows}
+use Rattle.meaning.specs.Terms.{size, sizes, tree_at, grove}
+use Rattle.terms.proofs.Scan.{grove-size, grove-none, owed-some, owed-row}
+use native.Mathlib.Omega.{arith}
+use Rattle.terms.proofs.end_of.Goals as goal
+
+pub loop-owed-init : goal.loop-owed-init
+loop-owed-init c =
+    let a = c.args in
+    let l = term_rows a.rows.now in
+    (omega (arith, grove-size l a.at 0, grove-none l (a.at + size (tree_at l a.at))), omega arith)
+
+pub row_at-requires : goal.row_at-requires
+row_at-requires c =
+    let a = c.args in
+    let p = c.requires in
+    let w = c.loop-owed in
+    let some = owed-some (term_rows a.rows.now) w.i w.owed (omega (arith, c.loop-owed-test.true)) in
+    omega (arith, p.1, w.invariant.0)
+
+pub overflow_add-owed : goal.overflow_add-owed
+overflow_add-owed c =
+    let a = c.args in
+    let p = c.requires in
+    let w = c.loop-owed in
+    let some = owed-some (term_rows a.rows.now) w.i w.owed (omega (arith, c.loop-owed-test.true)) in
+    omega (arith, p.0, p.1, w.invariant.0, w.invariant.1, c.children.ensures.1)
+
+pub overflow_add-i : goal.overflow_add-i
+overflow_add-i c =
+    let a = c.args in
+    let p = c.requires in
+    let w = c.loop-owed in
+    let some = owed-some (term_rows a.rows.now) w.i w.owed (omega (arith, c.loop-owed-test.true)) in
+    omega (arith, p.0, p.1, w.invariant.0)
+
+pub loop-owed-smaller : goal.loop-owed-smaller
+loop-owed-smaller c =
+    let a = c.args in
+    let p = c.requires in
+    let w = c.loop-owed in
+    let some = owed-some (term_rows a.rows.now) w.i w.owed (omega (arith, c.loop-owed-test.true)) in
+    omega (arith, p.1, w.invariant.0)
+
+pub loop-owed-preserved : goal.loop-owed-preserved
+loop-owed-preserved c =
+    let a = c.args in
+    let p = c.requires in
+    let w = c.loop-owed in
+    let z : w.owed ≡ 0 → ⊥ = omega (arith, c.loop-owed-test.true) in
+    let some = owed-some (term_rows a.rows.now) w.i w.owed z in
+    let s = owed-row a.rows.now w.i w.owed z (numbers c.row_at.result) c.children.result (omega (arith, p.1, w.invariant.0)) c.row_at.ensures c.children.ensures.0 in
+    (sym s ∙ w.invariant.0, omega (arith, w.invariant.1, c.children.ensures.1))
+
+pub returns : goal.returns
+returns c =
+    let a = c.args in
+    let w = c.loop-owed in
+    let l = term_rows a.rows.now in
+    let z : w.owed ≡ 0 = omega (arith, c.loop-owed-test.false) in
+    omega (arith, w.invariant.0, ap (λ (x : ℕ). sizes (grove l w.i x)) z, grove-none l w.i)

@@ -1,0 +1,16 @@
+-- A row in the table has its kind; behind it a blank stands.
+use mathlib.Core.Path.{sym}
+use Rattle.typing.proofs.ByRow.{native-out, native-in}
+use native.Mathlib.Omega.{arith}
+use Rattle.typing.proofs.stated.is_native.Goals as goal
+
+pub returns-then-p-term_rows : goal.returns-then-p-term_rows
+returns-then-p-term_rows c =
+    let args = c.args in
+    let e = c.term_rows.ensures in
+    sym (native-in args.rows.now args.p _ _ _ _ (omega (arith, e, c.if-p-term_rows.true)) c.row_at-r.ensures)
+
+pub returns : goal.returns
+returns c =
+    let args = c.args in
+    sym (native-out args.rows.now args.p (omega (arith, c.term_rows.ensures, c.if-p-term_rows.false)))
