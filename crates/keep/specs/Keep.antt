@@ -1,5 +1,5 @@
 -- A record with other rows, or with another open list and next number. Assumes nothing.
-use Rattle.std.specs.Prelude.{ℕ, ◌+◌, ◌*◌, ◌≤◌, ◌≡◌, List, map, length, take, drop}
+use Rattle.std.specs.Prelude.{ℕ, ◌*◌, ◌≤◌, ◌≡◌, List, map, length, take, drop}
 use Rattle.meaning.specs.Bytes.{writes, term_row, Limits, rows_at}
 use Rattle.meaning.specs.Terms.{Tree, flat, size, raw}
 use Rattle.meaning.specs.Records.{State, Entry, record_of}

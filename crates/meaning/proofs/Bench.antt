@@ -1,9 +1,9 @@
 -- The proved cases of document 01's bench sheet: one table, one proof, computed on states and carried to bytes by laws. Assumes nothing.
-use Prim.Native.Nat.{ℕ, zero, suc, ◌+◌, ◌-◌}
+use Prim.Native.Nat.{ℕ, ◌-◌}
 use mathlib.Core.Path.{◌≡◌, refl, ap, ◌∙◌}
-use mathlib.Core.Bool.{Bool, true, false, cond}
+use mathlib.Core.Bool.{Bool, true, false}
 use mathlib.Core.List.{List, [], ◌∷◌, ◌++◌, map}
-use mathlib.Core.Option.{Option, none, some}
+use mathlib.Core.Option.{none, some}
 use borrow.Author.Tests.{ltb-true}
 use lib.Dec.{ltb}
 use lib.ListN.{length, replicate}
@@ -14,11 +14,11 @@ use Rattle.meaning.specs.Typing.{list, tys, lit_base, first_is, below_ok, base_n
 use Rattle.meaning.specs.Steps.{◌∨ᵇ◌, veil, hide, swap, hit, assign, put, due, settle, value, nth, child, kid, become, if_step, isnil_step, project_step, send_step, is_list, ready, any_nil, kids_at, lproject_step, tie, fix_step, zip_cons, zip_step, apply_step, let_step, contract, nowhere, everywhere, first, unless, behind, unready, apply_looks, looks, or_else, wrap, tail_goes, head_goes, visit, step, earlier}
 use Rattle.meaning.specs.Records.{raw_entry, head_numbers, record_of, types_in, entries_in, rows_in, entry_of, state_of, first_not, nothing, is_whole, head_sound, unused, space_sound, types_sound, shape_sound, term_sound, rises, entry_sound, calls_sound, listed, future_listed, futures_sound, program_sound, sound}
 use Rattle.meaning.specs.Entries.{require, refuse, refuse_shape, leaves, file_types, file_rows, file_tree, no_future, program_verdict, load_verdict, loaded_state, load, send_meets, need, unmet, stepped, sent, try_out, try, letter_of, again, ended, onward, runs, lent, ran_out, rejected, run, reply_rows, reply_tree, reply_head_ok, reply_kind, reply_bad, answer_verdict, reply_verdict, without, replied_state, replied_out, reply}
-use Rattle.meaning.specs.Bytes.{file_head, type_row, term_row, reply_head, arm}
+use Rattle.meaning.specs.Bytes.{arm}
 use Rattle.meaning.specs.Records.{State}
 use Rattle.meaning.specs.Entries.{RunOut, Replied}
 use Rattle.meaning.specs.Types.{Form}
-use Rattle.meaning.specs.Steps.{Out, stay, go}
+use Rattle.meaning.specs.Steps.{stay, go}
 use Rattle.meaning.proofs.Trees.Tests.{left, right}
 use Rattle.meaning.proofs.Bytes.Layouts.{AllBytes, bytes-nil, bytes-cons}
 use Rattle.meaning.proofs.Bytes.Records.{Good, arm-small, state-record}
@@ -26,13 +26,13 @@ use Rattle.meaning.proofs.Bytes.Files.{file_numbers, file_of, file-bytes, sheet,
 use Rattle.meaning.proofs.Entries.Paths.{run-keeps}
 use Rattle.meaning.proofs.Entries.GoodStays.{arm-board, step_stays, reply-stays}
 use Rattle.meaning.proofs.Entries.OnGoodStates.{load-writes, run-good, reply-good}
-use Rattle.meaning.specs.Terms.{Lit, str, truth, Head, lit, var, lambda, foreign, apply, future, ite, fix, nil, cons, isnil, zip, tuple, project, lproject, bind, Tree, Forest, node, end, more}
+use Rattle.meaning.specs.Terms.{str, truth, lit, var, lambda, foreign, apply, future, ite, fix, nil, cons, isnil, zip, tuple, project, lproject, bind, Tree, node, end, more}
 use Rattle.meaning.specs.declared.Refusal.TheVariants.{NotOpen, ReplyTyping, Size}
 use Rattle.meaning.specs.declared.Verdict.{Verdict}
 use Rattle.meaning.specs.declared.Verdict.TheVariants.{Accepted, Refused}
-use Rattle.meaning.specs.declared.Answer.TheVariants.{Value, Waiting, Sent, Held, Budget, Room, Numbers}
+use Rattle.meaning.specs.declared.Answer.TheVariants.{Value, Waiting, Sent, Budget}
 use Rattle.meaning.specs.declared.Run.{Run}
-use Rattle.meaning.specs.declared.Run.TheVariants.{Ran, Rejected}
+use Rattle.meaning.specs.declared.Run.TheVariants.{Ran}
 
 -- Programs -------------------------------------------------------------------------------------------------------
 

@@ -1,22 +1,21 @@
 -- Arguments that are lists where a mask asks for them, one by one; a call of a zip of lists. Assumes nothing.
-use Prim.Native.Nat.{ℕ, zero, suc, ◌+◌, ◌-◌, ◌/◌, ◌≤◌, ◌<◌}
+use Prim.Native.Nat.{ℕ, suc, ◌+◌, ◌-◌, ◌/◌, ◌≤◌, ◌<◌}
 use mathlib.Core.Path.{◌≡◌, refl, ap, sym, ◌∙◌}
 use mathlib.Core.Bool.{Bool, true, false, cond}
 use mathlib.Core.List.{List, map}
 use native.Mathlib.Omega.{arith}
-use lib.Dec.{eqb}
 use lib.ListN.{length}
 use borrow.Author.Tests.{eq-eqb}
 use Rattle.meaning.specs.Bytes.{◌∧ᵇ◌}
-use Rattle.meaning.specs.Types.{Form, low, rest}
-use Rattle.meaning.specs.Terms.{apply, zip, code, n_of, head_from, Tree, Forest, node, more, head_of, is, Row, row_of, raw, size, sizes, kind_no, n_no, type_no, word_no, tree_of, tree_at, grove, kids}
+use Rattle.meaning.specs.Types.{low, rest}
+use Rattle.meaning.specs.Terms.{apply, zip, code, n_of, head_from, Tree, node, more, head_of, is, Row, row_of, size, sizes, kind_no, n_no, type_no, word_no, tree_of, tree_at, grove, kids}
 use Rattle.meaning.specs.Typing.{first_is}
 use Rattle.meaning.specs.Steps.{is_list, ready}
 use Rattle.meaning.proofs.Trees.Parse.{grove-more}
 use Rattle.terms.proofs.Scan.{grove-size, size-some}
 use Rattle.reduce.specs.Plan.{row_no}
 use Rattle.reduce.specs.Lists.{zips, lists_below, zips_lists, tree_zips, tree_zips_lists}
-use Rattle.reduce.proofs.Roots.{kind-is, made_as, some-row, root, root-size}
+use Rattle.reduce.proofs.Roots.{kind-is, made_as, root, root-size}
 
 pub none-listed : (m : ℕ) (L : List Row) (at n : ℕ) → n ≡ 0 → true ≡ ready m (grove L at n)
 unfolding ready grove kids

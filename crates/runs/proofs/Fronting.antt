@@ -1,12 +1,11 @@
 -- What a record says before its row space is the same where these bytes are. Assumes nothing.
 use Prim.Native.Nat.{ℕ, ◌+◌, ◌*◌, ◌-◌, ◌≤◌}
 use mathlib.Core.Path.{◌≡◌, refl, ap, sym, ◌∙◌}
-use mathlib.Core.Bool.{Bool, true}
-use mathlib.Core.List.{List, [], ◌∷◌, map}
+use mathlib.Core.List.{List}
 use native.Mathlib.Omega.{arith}
 use lib.ListN.{length, take, drop, get_or, length-drop}
 use Rattle.meaning.specs.Bytes.{Layout, width, read, reads, record_head, type_row, entry_row, Limits, types_at, calls_at, rows_at, record_bytes}
-use Rattle.meaning.specs.Records.{head_no, type_count, open_count, next_number, types_in, entries_in, head_sound}
+use Rattle.meaning.specs.Records.{type_count, open_count, next_number, types_in, entries_in, head_sound}
 use Rattle.layout.proofs.Tables.{reads-cut}
 use Rattle.search.proofs.Tables.{drop-take}
 use Rattle.runs.proofs.PutBack.{record-long}

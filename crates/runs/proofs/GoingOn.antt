@@ -10,7 +10,7 @@ use Rattle.meaning.specs.Bytes.{Limits, rows_at, record_bytes}
 use Rattle.meaning.specs.Types.{Form}
 use Rattle.meaning.specs.Terms.{Head, arity, Tree, Forest, node, top}
 use Rattle.meaning.specs.Steps.{stay}
-use Rattle.search.specs.Frames.{spelled, Frame, below, around, row_of_frame, passed_rows, Open}
+use Rattle.search.specs.Frames.{spelled, Frame, around, row_of_frame, passed_rows, Open}
 use Rattle.search.specs.Kept.{row_in, owed_in, fits_here, fits_end, passed_number, Held, Kept, Passes, Leaves}
 use Rattle.search.specs.Search.{Searching, Room, Somewhere, Resting, Ending, Stops, ahead}
 use Rattle.search.specs.declared.Stand.{Stand}

@@ -11,7 +11,7 @@ use Rattle.meaning.specs.Bytes.{◌∧ᵇ◌, Limits, padded, rows_at, record_by
 use Rattle.meaning.specs.Types.{Form, form_of}
 use Rattle.meaning.specs.Terms.{code, Tree, size, top}
 use Rattle.meaning.specs.Steps.{Call, stay, go, step}
-use Rattle.meaning.specs.Records.{State, record_of, state_of, sound, type_count, types_in, open_count, next_number, head_sound, entry_of, row_count as rowCount'}
+use Rattle.meaning.specs.Records.{State, record_of, state_of, sound, type_count, types_in, open_count, next_number, head_sound, entry_of, row_count as row_count'}
 use Rattle.meaning.specs.Entries.{Ended, stepped, runs, lent, ran_out, run, RunSays, letter_of}
 use Rattle.meaning.specs.declared.Answer.{Answer}
 use Rattle.meaning.specs.declared.Run.{Run}
@@ -104,7 +104,7 @@ module _ (m : Limits) (kept₀ work₀ : List ℕ) (budget : ℕ) where
     heads : Header m kept₀ z.board.small z.long z.bytes z.is-sound
     heads = header m kept₀ z.board.small z.long z.bytes z.is-sound
 
-    pub rows_few : rowCount' kept₀ ≤ m.rows
+    pub rows_few : row_count' kept₀ ≤ m.rows
     rows_few = heads.rows_many
 
     types₀ : types_in kept₀ ≡ start.types
@@ -141,7 +141,7 @@ module _ (m : Limits) (kept₀ work₀ : List ℕ) (budget : ℕ) where
           }
 
     -- IT BEGINS
-    pub under-begins : (work frames : List ℕ) (s : Stand) → Begins m kept₀ work₀ work s → length work ≡ length work₀ → rowCount' kept₀ ≤ length frames → length work₀ ≤ 32768 → m.rows ≤ 2048 → Under m kept₀ budget kept₀ work frames s 0
+    pub under-begins : (work frames : List ℕ) (s : Stand) → Begins m kept₀ work₀ work s → length work ≡ length work₀ → row_count' kept₀ ≤ length frames → length work₀ ≤ 32768 → m.rows ≤ 2048 → Under m kept₀ budget kept₀ work frames s 0
     unfolding stepped
     under-begins work frames s b lw deep few rows =
         let w = begun m kept₀ work₀ work frames s form₀ start.next z.board.small z.long z.bytes z.is-sound (omega (arith, heads.rows_many, record-long m, z.long)) b in

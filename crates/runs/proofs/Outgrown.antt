@@ -6,7 +6,7 @@ use mathlib.Core.List.{List}
 use native.Mathlib.Omega.{arith}
 use borrow.Author.Tests.{eq-eqb}
 use lib.ListN.{length, replicate, length-replicate}
-use Rattle.meaning.specs.Bytes.{◌∧ᵇ◌, Limits, record_bytes, arm}
+use Rattle.meaning.specs.Bytes.{Limits, record_bytes, arm}
 use Rattle.meaning.specs.Records.{state_of, sound, row_count}
 use Rattle.meaning.specs.Entries.{runs, lent, RunOut, ran_out, run, RunSays}
 use Rattle.meaning.specs.declared.Run.{Run}

@@ -10,7 +10,7 @@ use Rattle.layout.proofs.Tables.{term-width}
 use Rattle.meaning.specs.Bytes.{Limits, width, reads, writes, term_row, calls_at, rows_at, record_bytes}
 use Rattle.meaning.specs.Types.{Form}
 use Rattle.meaning.specs.Terms.{Tree, flat, size, raw, top}
-use Rattle.meaning.specs.Records.{State, state_of, sound, rows_in, row_count as termCount}
+use Rattle.meaning.specs.Records.{State, state_of, sound, rows_in, row_count as term_count}
 use Rattle.meaning.proofs.Bytes.Layouts.{AllBytes, bytes_drop, writes_reads}
 use Rattle.meaning.proofs.Bytes.Records.{Small, tree-rows}
 use Rattle.meaning.proofs.Trees.Parse.{length-flat}
@@ -32,7 +32,7 @@ pub rows-from : (m : Limits) → 20 ≤ rows_at m
 unfolding rows_at calls_at width
 rows-from m = omega arith
 
-in_rows : (m : Limits) (kept : List ℕ) → reads term_row (termCount kept) (drop (rows_at m) kept) ≡ rows_in m kept
+in_rows : (m : Limits) (kept : List ℕ) → reads term_row (term_count kept) (drop (rows_at m) kept) ≡ rows_in m kept
 unfolding rows_in
 in_rows m kept = refl
 
@@ -42,11 +42,11 @@ none_left work r e = let z : row_count work - r ≡ 0 = omega (arith, e) in rw z
 
 -- IT BEGINS with the record's own tree
 pub begun : (m : Limits) (kept work work' frames : List ℕ) (s : Stand) (form : ℕ → Form) (k : ℕ) → Small m → length kept ≡ record_bytes m → AllBytes kept → sound m kept ≡ true
-    → rows_at m + 8 * termCount kept ≤ length kept → Begins m kept work work' s → Whole form k (space m kept) work' frames s (state_of m kept).tree
+    → rows_at m + 8 * term_count kept ≤ length kept → Begins m kept work work' s → Whole form k (space m kept) work' frames s (state_of m kept).tree
 unfolding around top
 begun m kept work work' frames s form k small long bytes ok fits b =
     let t = (state_of m kept).tree in
-    let n = termCount kept in
+    let n = term_count kept in
     let y = take (8 * n) (drop (rows_at m) kept) in
     let ly : length y ≡ 8 * n = length-take (8 * n) (drop (rows_at m) kept) ∙ omega (arith, length-drop (rows_at m) kept) in
     let room : 8 * s.r + 8 * n ≤ length work = omega (arith, b.first) in

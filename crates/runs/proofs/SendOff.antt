@@ -1,15 +1,13 @@
 -- A call sent: its letter and zeros in the work buffer, its future in the record, its entry in the list. Assumes nothing.
 use Prim.Native.Nat.{ℕ, suc, ◌+◌, ◌*◌, ◌-◌, ◌≤◌}
 use mathlib.Core.Path.{◌≡◌, refl, ap, sym, ◌∙◌}
-use mathlib.Core.Bool.{Bool, false}
-use mathlib.Core.List.{List, [], ◌∷◌, ◌++◌, map, append-nil}
+use mathlib.Core.Bool.{false}
+use mathlib.Core.List.{List, [], ◌∷◌, ◌++◌, append-nil}
 use native.Mathlib.Omega.{arith}
 use lib.ListN.{length, take, drop, replicate, length-map, length-take, drop_of_length-le}
 use Rattle.meaning.specs.Bytes.{Limits, number, padded, entry_row, calls_at}
-use Rattle.meaning.specs.Types.{Form}
-use Rattle.meaning.specs.Terms.{Tree, size, top}
-use Rattle.meaning.specs.Steps.{Call, go}
-use Rattle.meaning.specs.Records.{State, Entry, record_of, state_of, open_count, entries_in, entry_of}
+use Rattle.meaning.specs.Terms.{top}
+use Rattle.meaning.specs.Records.{Entry, record_of, state_of, open_count, entries_in, entry_of}
 use Rattle.meaning.specs.Entries.{sent, stepped, letter_of}
 use Rattle.meaning.proofs.Bytes.Layouts.{AllBytes, length-reads}
 use Rattle.open.specs.Open.{opened, Lists}
@@ -19,8 +17,8 @@ use Rattle.search.specs.Frames.{around}
 use Rattle.search.specs.Kept.{row_count}
 use Rattle.search.specs.Search.{Room}
 use Rattle.search.specs.declared.Stand.{Stand}
-use Rattle.runs.specs.Sites.{own, Halted, CallsOut, Calling}
-use Rattle.runs.specs.Going.{space, PutBack, Fronts}
+use Rattle.runs.specs.Sites.{CallsOut, Calling}
+use Rattle.runs.specs.Going.{space, PutBack}
 use Rattle.runs.specs.Loops.{SentOff}
 use Rattle.runs.proofs.CallOut.{whole-size, result-sent, smaller, ready-to-call}
 

@@ -1,15 +1,13 @@
 -- How many rows the whole has when another tree stands where the search has stopped. Assumes nothing.
 use Prim.Native.Nat.{ℕ, zero, suc, ◌+◌, ◌<◌}
-use mathlib.Core.Path.{◌≡◌, refl, ap, sym, ◌∙◌}
-use mathlib.Core.Bool.{Bool, true, false}
+use mathlib.Core.Path.{◌≡◌, refl, ap, sym}
+use mathlib.Core.Bool.{Bool}
 use mathlib.Core.List.{List, [], ◌∷◌, ◌++◌}
 use native.Mathlib.Omega.{arith}
 use lib.ListN.{length, drop}
 use Rattle.meaning.specs.Types.{Form}
-use Rattle.meaning.specs.Terms.{arity, Tree, Forest, node, end, more, size, sizes, kids, top}
-use Rattle.search.specs.Frames.{Frame, below, close, around, Looked, Open, Passed}
-use Rattle.search.specs.Search.{Searching}
-use Rattle.search.specs.declared.Stand.{Stand}
+use Rattle.meaning.specs.Terms.{arity, Tree, node, size, sizes, kids, top}
+use Rattle.search.specs.Frames.{Frame, below, close, around, Open, Passed}
 use Rattle.search.proofs.Frames.{close-left}
 use Rattle.runs.specs.Sites.{Site, at_row, at-end}
 

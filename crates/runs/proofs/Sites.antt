@@ -12,7 +12,7 @@ use Rattle.meaning.specs.Bytes.{◌∧ᵇ◌}
 use Rattle.meaning.specs.Types.{Form}
 use Rattle.meaning.specs.Terms.{str, file, truth, Head, lit, var, lambda, foreign, apply, future, ite, fix, nil, cons, isnil, zip, tuple, project, lproject, bind, arity, code, n_of, Tree, Forest, node, end, more, head_of, is, raw, flat, size, top}
 use Rattle.meaning.specs.Typing.{first_is}
-use Rattle.meaning.specs.Steps.{Call, Out, go, ready, any_nil, zip_cons, zip_step, apply_step, contract, step}
+use Rattle.meaning.specs.Steps.{Call, go, ready, any_nil, zip_cons, zip_step, apply_step, contract, step}
 use Rattle.meaning.proofs.Trees.Parse.{length-flat}
 use Rattle.meaning.proofs.Trees.Tests.{left, right}
 use Rattle.reduce.specs.Lists.{zips, lists_below, zips_lists, tree_zips}

@@ -36,7 +36,6 @@ use Rattle.put.specs.declared.Pass.TheVariants.{Made}
 use Rattle.reduce.proofs.Quiet.{rule-is, tree_is, redex-of}
 use Rattle.runs.specs.Sites.{Site, at_row, at-end, own, Turns, Halted, Tells}
 use Rattle.runs.specs.declared.Tried.{Tried}
-use Rattle.runs.specs.declared.Tried.TheVariants as Tried
 use Rattle.runs.specs.Tries.{Trying, Tries, Turning, Going, Stands, Makes}
 use Rattle.runs.proofs.Sites.{is_call, here-rows, here-no-call, here-zips, here-behind}
 

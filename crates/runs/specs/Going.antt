@@ -3,7 +3,7 @@ use Rattle.std.specs.Prelude.{ℕ, ◌+◌, ◌*◌, ◌-◌, ◌/◌, ◌≤◌
 use Rattle.meaning.specs.Bytes.{Limits, number, write, call_head, rows_at}
 use Rattle.meaning.specs.Types.{Form}
 use Rattle.meaning.specs.Terms.{Tree}
-use Rattle.meaning.specs.Records.{State, record_of, row_count as termCount}
+use Rattle.meaning.specs.Records.{State, record_of, row_count as term_count}
 use Rattle.keep.specs.Keep.{Roomy}
 use Rattle.search.specs.Kept.{row_count}
 use Rattle.meaning.specs.Entries.{Ended, stepped, runs}
@@ -27,10 +27,10 @@ pub record OnTheWay (m : Limits) (budget made : ℕ) (s : State) (t : Tree) : Ty
 
 -- the record's rows stand at the end of the work buffer
 pub record Begins (m : Limits) (kept work work' : List ℕ) (s : Stand) : Type 0 where
-  pub bytes : work' ≡ take (8 * s.r) work ++ (take (8 * termCount kept) (drop (rows_at m) kept) ++ drop (8 * s.r + 8 * termCount kept) work)
+  pub bytes : work' ≡ take (8 * s.r) work ++ (take (8 * term_count kept) (drop (rows_at m) kept) ++ drop (8 * s.r + 8 * term_count kept) work)
   pub none_passed : s.l ≡ 0
   pub no-frame : s.d ≡ 0
-  pub first : s.r + termCount kept ≡ row_count work
+  pub first : s.r + term_count kept ≡ row_count work
 
 -- before the row space a record of s stands
 pub record Fronts (m : Limits) (kept : List ℕ) (s : State) : Type 0 where

@@ -1,8 +1,8 @@
 -- What the loops of a run leave: the next rule that goes or sends, a step carried out, an answer. Assumes nothing.
-use Rattle.std.specs.Prelude.{ℕ, ◌+◌, ◌*◌, ◌-◌, ◌<◌, ◌≤◌, ◌≡◌, Bool, true, List, [], ◌∷◌, length, replicate}
-use Rattle.std.proofs.Math.Option.{none, some}
+use Rattle.std.specs.Prelude.{ℕ, ◌+◌, ◌*◌, ◌-◌, ◌<◌, ◌≤◌, ◌≡◌, Bool, true, List, [], ◌∷◌, length}
+use Rattle.std.proofs.Math.Option.{some}
 use Rattle.meaning.specs.Bytes.{Limits, padded, record_bytes}
-use Rattle.meaning.specs.Types.{Form, form_of}
+use Rattle.meaning.specs.Types.{Form}
 use Rattle.meaning.specs.Terms.{Tree, size, top}
 use Rattle.meaning.specs.Steps.{Call, stay, go, value, step}
 use Rattle.meaning.specs.Records.{State, record_of, state_of, sound, row_count}

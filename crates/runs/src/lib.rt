@@ -3,7 +3,7 @@
 
 ghost use Rattle.std.specs.Prelude.{◌≡◌, ℕ, ◌+◌, ◌*◌, ◌-◌, ◌≤◌, ◌<◌, true, false, List, [], ◌∷◌, ◌++◌, length, take, drop, replicate};
 ghost use Rattle.meaning.specs.Bytes.{number, write, term_row, record_bytes, arm};
-ghost use Rattle.meaning.specs.Records.{row_count as termCount, type_count, types_in};
+ghost use Rattle.meaning.specs.Records.{row_count as term_count, type_count, types_in};
 ghost use Rattle.layout.specs.Rows.{board};
 ghost use Rattle.search.specs.Kept.{row_count};
 ghost use Rattle.meaning.specs.Types.{Form, form_of};
@@ -48,7 +48,7 @@ pub enum Tried {
 
 // The record's rows go to the end of the work buffer: all of them are to come.
 fn begin(kept: &[u8], work: &mut [u8], m: Limits) -> Stand
-    requires { (length kept.now ≡ record_bytes (board m)) × (termCount kept.now ≤ m.rows) × (8 * m.rows ≤ length work.old) }
+    requires { (length kept.now ≡ record_bytes (board m)) × (term_count kept.now ≤ m.rows) × (8 * m.rows ≤ length work.old) }
     ensures { Begins (board m) kept.now work.old work.new result }
 {
     let n = layout::wide(sound::head::row_count(kept));

@@ -1,12 +1,12 @@
 -- A run that is refused, and that two outcomes of the exported run are equal. Assumes nothing.
 use Prim.Native.Nat.{ℕ}
-use mathlib.Core.Path.{◌≡◌, refl, ap, sym, ◌∙◌, subst}
-use mathlib.Core.Bool.{Bool, true, false}
+use mathlib.Core.Path.{◌≡◌, refl, sym, ◌∙◌, subst}
+use mathlib.Core.Bool.{false}
 use mathlib.Core.List.{List}
 use borrow.Author.Tests.{eq-eqb, ne_eqb}
 use lib.Dec.{eqb}
 use lib.ListN.{length}
-use Rattle.meaning.specs.Bytes.{◌∧ᵇ◌, Limits, arm, record_bytes}
+use Rattle.meaning.specs.Bytes.{Limits, arm, record_bytes}
 use Rattle.meaning.specs.Records.{sound}
 use Rattle.meaning.specs.Entries.{lent, rejected, run, RunSays}
 use Rattle.meaning.specs.declared.Refusal.TheVariants.{Length, Unsound}

@@ -15,8 +15,8 @@ use Rattle.terms.proofs.Scan.{row-in}
 use Rattle.rules.specs.Forms.{forms}
 use Rattle.typing.proofs.Judging.{judged-any}
 use Rattle.meaning.specs.Types.{Form, Param, Ctx, empty, ◌⹁◌}
-use Rattle.meaning.specs.Terms.{arity, Tree, Forest, node, Row, size, sizes, kids, trees, top, blank, tree_at, tree_of, row_of}
-use Rattle.meaning.specs.Typing.{tys, scope, stop, later, before, row_ok, first_bad, first_bads}
+use Rattle.meaning.specs.Terms.{arity, Tree, Row, size, sizes, kids, trees, top, blank, tree_at, tree_of, row_of}
+use Rattle.meaning.specs.Typing.{tys, scope, stop, later, before, first_bad, first_bads}
 use Rattle.meaning.proofs.Trees.Parse.{sizes-split, tree-at-zero}
 use Rattle.typing.specs.Scope.{judged}
 

@@ -1,5 +1,4 @@
 -- `layout::copy_to` meets its contract: after i turns the first i bytes are copied. Assumes nothing.
-use Prim.Native.Nat.{◌-◌}
 use mathlib.Core.Path.{refl}
 use native.Mathlib.Omega.{arith}
 use lib.ListN.{drop, length-set}

@@ -336,7 +336,7 @@ calm-rows (r ∷ l) (e, d) = (calm (eqb (code r.head) 9) refl, calm-rows l d)
     calm false q = refl
 
 -- each program has a file, which is accepted and holds it
-module _ (m : Limits) (ts : List (List ℕ)) (t : Tree) (typesFew : m.types ≤ 65535) (rowsFew : m.program_rows ≤ 65535) (program : Program m ts t) where
+module _ (m : Limits) (ts : List (List ℕ)) (t : Tree) (types_few : m.types ≤ 65535) (rows_few : m.program_rows ≤ 65535) (program : Program m ts t) where
   row-total : length (map raw (flat t)) ≡ size t
   row-total = length-map (flat t) raw ∙ length-flat t
 

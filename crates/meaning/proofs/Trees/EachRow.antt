@@ -1,9 +1,9 @@
 -- A fact of each row of a tree, and of a list of rows. Assumes nothing.
-use Prim.Native.Nat.{ℕ, zero, suc}
-use mathlib.Core.Path.{◌≡◌, refl}
+use Prim.Native.Nat.{ℕ}
+use mathlib.Core.Path.{◌≡◌}
 use mathlib.Core.List.{List, [], ◌∷◌, ◌++◌}
 use mathlib.Core.Option.{Option, some}
-use Rattle.meaning.specs.Terms.{Head, future, arity, Tree, Forest, node, end, more, Row, flat, flats}
+use Rattle.meaning.specs.Terms.{Head, future, Tree, Forest, node, end, more, Row, flat, flats}
 
 abbrev pub Fact : Type 1
 Fact = Head → ℕ → Type 0

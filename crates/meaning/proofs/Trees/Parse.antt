@@ -6,9 +6,9 @@ use Prim.Native.Nat.{ℕ, zero, suc, ◌+◌, ◌≤◌, ◌<◌}
 use native.Mathlib.Omega.{arith}
 use native.Mathlib.Numerals.{add-one}
 use native.Mathlib.Nat.{add-zero, add-suc}
-use lib.ListN.{length, take, drop, get_or, drop_of_length-le, length-drop, length-append}
-use lib.Seq.{drop-nil, take-nil, drop-cons, drop-drop, take-add}
-use Rattle.meaning.specs.Terms.{Lit, str, Head, lit, arity, Tree, Forest, node, end, more, Row, flat, flats, size, sizes, blank, kids, trees, top, tree_at, tree_of, grove}
+use lib.ListN.{length, take, drop, get_or, length-append}
+use lib.Seq.{drop-nil, drop-cons, drop-drop}
+use Rattle.meaning.specs.Terms.{arity, Tree, Forest, node, end, more, Row, flat, flats, size, sizes, blank, kids, trees, top, tree_at, tree_of, grove}
 
 -- the trees of a forest, in front of others
 unfoldable pub front : {n : ℕ} → Forest n → List Tree → List Tree

@@ -1,13 +1,10 @@
 -- The values of a ground type are data: lists and tuples of literals. Assumes nothing.
-use Prim.Native.Nat.{ℕ, zero, suc, ◌<◌}
-use mathlib.Core.Path.{◌≡◌, refl, ap, sym, ◌∙◌, fun_ext}
+use Prim.Native.Nat.{ℕ}
+use mathlib.Core.Path.{◌≡◌, refl}
 use mathlib.Core.Bool.{Bool, true, false, false≢true}
 use mathlib.Core.List.{List, [], ◌∷◌}
-use native.Mathlib.Omega.{arith}
-use lib.Dec.{ltb}
-use borrow.Author.Tests.{ltb-true}
 use Rattle.meaning.specs.Bytes.{◌∧ᵇ◌}
-use Rattle.meaning.specs.Types.{Side, Param, Form, f_list, f_tuple, f_fun, every, ground_form, ground_below, ground, member, empty, pick, find, ◌⹁◌}
+use Rattle.meaning.specs.Types.{Form, f_tuple, every, ground, member, empty, pick, find, ◌⹁◌}
 use Rattle.meaning.specs.Terms.{str, file, truth, lit, var, lambda, foreign, apply, future, ite, fix, nil, cons, isnil, zip, tuple, project, lproject, bind, code, Tree, Forest, node, end, more, ty_of}
 use Rattle.meaning.specs.Typing.{list, tys, Rule, scope, Typed, TypedF}
 use Rattle.meaning.specs.Steps.{value, values}

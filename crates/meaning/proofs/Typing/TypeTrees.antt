@@ -12,7 +12,7 @@ use lib.Dec.{ltb}
 use lib.ListN.{length}
 use Rattle.meaning.specs.Bytes.{◌∧ᵇ◌}
 use Rattle.meaning.specs.Types.{Base, Side, Param, Form, absent, base, f_list, f_tuple, f_fun, types, every, below, ground_form, ground, form_of, bad_type}
-use Rattle.meaning.specs.Paper.{Ty, t_base, t_list, t_tuple, t_fun, Elems, elem, Args, is_ground, all_ground, elems_from, args_from, type_from, type_below, type_of}
+use Rattle.meaning.specs.Paper.{Ty, t_base, t_list, t_tuple, t_fun, Elems, Args, is_ground, all_ground, elems_from, args_from, type_from, type_below, type_of}
 use Rattle.meaning.specs.Records.{version}
 use Rattle.meaning.proofs.Trees.Tests.{left, right, both}
 use Rattle.meaning.proofs.Bytes.Layouts.{Wide}

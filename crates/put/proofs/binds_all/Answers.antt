@@ -1,7 +1,6 @@
 -- The loop's invariant: the names so far are the function's.
-use Prim.Native.Nat.{◌-◌}
 use mathlib.Core.Path.{refl, sym, ◌∙◌}
-use mathlib.Core.Bool.{true, false≢true}
+use mathlib.Core.Bool.{false≢true}
 use native.Mathlib.Omega.{arith}
 use Rattle.layout.specs.Rows.{type_table}
 use Rattle.meaning.specs.Types.{form_of, params}

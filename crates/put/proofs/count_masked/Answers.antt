@@ -1,6 +1,6 @@
 -- The loop's invariant: the rows counted and those left to write are all.
 use mathlib.Core.Path.{refl, sym}
-use Prim.Native.Nat.{ℕ, ◌-◌}
+use Prim.Native.Nat.{ℕ}
 use native.Mathlib.Omega.{arith}
 use lib.ListN.{length-replicate}
 use Rattle.layout.specs.Rows.{type_table}

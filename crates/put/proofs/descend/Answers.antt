@@ -1,6 +1,5 @@
 -- A leaf owes nothing, a binder's last tree gets its own mask, any other row's trees get the row's. The loop's invariant: those written so far.
 use mathlib.Core.Path.{refl, sym, ◌∙◌}
-use Prim.Native.Nat.{◌-◌}
 use native.Mathlib.Omega.{arith}
 use lib.ListN.{length-set}
 use Rattle.meaning.specs.Terms.{row_of}

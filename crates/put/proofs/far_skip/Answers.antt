@@ -1,5 +1,5 @@
 -- The loop's invariant: the rows passed are none of the names and hide none.
-use Prim.Native.Nat.{◌-◌, ◌<◌}
+use Prim.Native.Nat.{◌<◌}
 use mathlib.Core.Path.{refl}
 use native.Mathlib.Omega.{arith}
 use Rattle.layout.specs.Rows.{numbers, row_table}

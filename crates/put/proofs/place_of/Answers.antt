@@ -1,6 +1,5 @@
 -- The loop's invariant: the names from the k-th on answer as all of them do.
 use mathlib.Core.Path.{refl, sym, ◌∙◌}
-use Prim.Native.Nat.{◌-◌}
 use native.Mathlib.Omega.{arith}
 use Rattle.put.proofs.Turning.{shift_zero, pick-on, pick-hidden, pick-here, pick_end}
 use Rattle.put.proofs.place_of.Goals as goal

@@ -1,5 +1,5 @@
 -- The loop's invariant: the names so far are in the range.
-use Prim.Native.Nat.{ℕ, ◌-◌}
+use Prim.Native.Nat.{ℕ}
 use mathlib.Core.Path.{◌≡◌, refl, subst}
 use native.Mathlib.Omega.{arith}
 use lib.ListN.{get_or}

@@ -1,5 +1,4 @@
 -- The loop's invariant: the buffers hold the term after the steps made so far. Each way out is a line of the table, or a call, or the term has outgrown the frames.
-use Prim.Native.Nat.{◌-◌}
 use mathlib.Core.Path.{refl, ◌∙◌}
 use mathlib.Core.Option.{none, some}
 use native.Mathlib.Omega.{arith}

@@ -3,7 +3,6 @@ use Prim.Native.Nat.{◌-◌}
 use mathlib.Core.Path.{◌≡◌}
 use lib.ListN.{length}
 use Rattle.layout.specs.Rows.{board}
-use Rattle.meaning.specs.declared.Answer.TheVariants as Answer
 use Rattle.runs.proofs.Looping.{Under}
 use Rattle.runs.proofs.go.Given as goal
 

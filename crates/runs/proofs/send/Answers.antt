@@ -1,5 +1,4 @@
 -- The type, the list, the call out, the record put back, the list renewed, the rest of the work buffer cleared.
-use Prim.Native.Nat.{◌-◌}
 use mathlib.Core.Path.{ap, ◌∙◌}
 use native.Mathlib.Omega.{arith}
 use lib.ListN.{length, length-append}

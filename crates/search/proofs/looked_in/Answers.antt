@@ -1,9 +1,8 @@
 -- By the first tree of the frame, which stands at the search or behind the frame's row.
-use Prim.Native.Nat.{ℕ, ◌+◌, ◌*◌, ◌≤◌}
+use Prim.Native.Nat.{ℕ, ◌*◌}
 use mathlib.Core.Path.{ap, ◌∙◌}
 use mathlib.Core.List.{List}
 use native.Mathlib.Omega.{arith}
-use lib.ListN.{length}
 use Rattle.meaning.specs.Terms.{arity, row_of}
 use Rattle.search.proofs.Sights.{kind-byte, sees-first, sees-later}
 use Rattle.search.proofs.looked_in.Goals as goal

@@ -1,5 +1,4 @@
 -- `settle::count_after` meets its contract: the count of the rows passed. Assumes nothing.
-use Prim.Native.Nat.{◌-◌}
 use mathlib.Core.Path.{sym, ap, ◌∙◌}
 use mathlib.Core.List.{[]}
 use native.Mathlib.Omega.{arith}

@@ -1,5 +1,5 @@
 -- `settle::settle_each` meets its contract: the rows passed are settled, the others as they were. Assumes nothing.
-use Prim.Native.Nat.{◌+◌, ◌*◌, ◌-◌, ◌≤◌}
+use Prim.Native.Nat.{◌*◌, ◌-◌, ◌≤◌}
 use mathlib.Core.Path.{◌≡◌}
 use mathlib.Core.List.{◌++◌}
 use lib.ListN.{length, take, drop}

@@ -7,7 +7,6 @@ use lib.Seq.{length-take-le}
 use Rattle.layout.specs.Rows.{row_table}
 use Rattle.settle.specs.Settled.{settled}
 use Rattle.settle.proofs.Copies.{all-cleared, first-within, rows-count, space-settled, mid-length}
-use Rattle.settle.proofs.Verdicts.{value-rows}
 use Rattle.settle.proofs.settle_term.Goals as goal
 
 pub slice_bounds-first_due-end : goal.slice_bounds-first_due-end

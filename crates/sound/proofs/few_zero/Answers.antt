@@ -1,5 +1,4 @@
 -- `sound::few_zero` meets its contract: the greatest of the bytes passed. Assumes nothing.
-use Prim.Native.Nat.{◌-◌}
 use native.Mathlib.Omega.{arith}
 use Rattle.sound.proofs.Laws.{bounds-none, bounds-more, bounds-all}
 use Rattle.sound.proofs.few_zero.Goals as goal

@@ -1,5 +1,4 @@
 -- `sound::four_zero` meets its contract: the greatest of the bytes passed in each part. Assumes nothing.
-use Prim.Native.Nat.{◌-◌}
 use native.Mathlib.Omega.{arith}
 use Rattle.sound.proofs.Laws.{fronts-none, fronts-more, fronts-all}
 use Rattle.sound.proofs.four_zero.Goals as goal

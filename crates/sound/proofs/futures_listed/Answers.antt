@@ -1,5 +1,4 @@
 -- `sound::futures_listed` meets its contract: from row i on as from the first. Assumes nothing.
-use Prim.Native.Nat.{◌-◌}
 use mathlib.Core.Path.{refl, sym, ◌∙◌}
 use mathlib.Core.List.{[]}
 use native.Mathlib.Omega.{arith}

@@ -1,5 +1,4 @@
 -- `sound::is_listed` meets its contract: from entry i on as from the first. Assumes nothing.
-use Prim.Native.Nat.{◌-◌}
 use mathlib.Core.Path.{refl, sym, ◌∙◌}
 use native.Mathlib.Omega.{arith}
 use Rattle.meaning.specs.Typing.{given}

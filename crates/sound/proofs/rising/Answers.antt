@@ -1,5 +1,4 @@
 -- `sound::rising` meets its contract: from entry i on as from the first. Assumes nothing.
-use Prim.Native.Nat.{◌-◌}
 use mathlib.Core.Path.{refl, sym, ◌∙◌}
 use native.Mathlib.Omega.{arith}
 use Rattle.sound.proofs.Parts.{call-above, call_below, calls-risen}

@@ -1,5 +1,4 @@
 -- The loop's invariant: what is left of the table answers as the whole of it does.
-use Prim.Native.Nat.{◌-◌}
 use mathlib.Core.Path.{refl, sym, ap, ◌∙◌}
 use Rattle.layout.specs.Rows.{numbers, row_table}
 use Rattle.layout.proofs.Tables.{row-table-length}

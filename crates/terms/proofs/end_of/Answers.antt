@@ -1,5 +1,5 @@
 -- The loop's invariant: the trees still owed from row i on end where the tree at row `at` ends.
-use Prim.Native.Nat.{ℕ, ◌+◌, ◌-◌}
+use Prim.Native.Nat.{ℕ, ◌+◌}
 use mathlib.Core.Path.{◌≡◌, sym, ap, ◌∙◌}
 use Rattle.layout.specs.Rows.{numbers, term_rows}
 use Rattle.meaning.specs.Terms.{size, sizes, tree_at, grove}

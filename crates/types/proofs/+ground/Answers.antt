@@ -1,5 +1,5 @@
 -- `types::ground` meets its contract: by the form; the measure is the type's number. Assumes nothing.
-use Prim.Native.Nat.{◌-◌, ◌*◌, ◌/◌}
+use Prim.Native.Nat.{◌*◌, ◌/◌}
 use mathlib.Core.Path.{refl, sym, ap, ◌∙◌}
 use native.Mathlib.Omega.{arith}
 use lib.ListN.{length, drop}

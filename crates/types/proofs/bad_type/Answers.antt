@@ -1,5 +1,5 @@
 -- `types::bad_type` meets its contract: from row i on as from the first. Assumes nothing.
-use Prim.Native.Nat.{◌-◌, ◌/◌}
+use Prim.Native.Nat.{◌/◌}
 use mathlib.Core.Path.{sym, ◌∙◌}
 use native.Mathlib.Omega.{arith}
 use lib.ListN.{length}

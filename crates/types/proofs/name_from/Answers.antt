@@ -1,5 +1,5 @@
 -- `types::name_from` meets its contract: from the j-th name on as from the k-th. Assumes nothing.
-use Prim.Native.Nat.{◌-◌, ◌*◌}
+use Prim.Native.Nat.{◌*◌}
 use mathlib.Core.Path.{refl, sym, ◌∙◌}
 use native.Mathlib.Omega.{arith}
 use lib.ListN.{drop}

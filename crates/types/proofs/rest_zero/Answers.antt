@@ -1,5 +1,5 @@
 -- `types::rest_zero` meets its contract: the greatest pair so far, and the pairs to come. Assumes nothing.
-use Prim.Native.Nat.{◌-◌, ◌*◌}
+use Prim.Native.Nat.{◌*◌}
 use native.Mathlib.Omega.{arith}
 use lib.ListN.{drop}
 use Rattle.types.specs.Table.{type_at}

@@ -1,5 +1,5 @@
 -- `types::row_hash` meets its contract: the sum so far with what the pairs from the k-th on weigh is the whole sum. Assumes nothing.
-use Prim.Native.Nat.{◌-◌, ◌*◌}
+use Prim.Native.Nat.{◌*◌}
 use native.Mathlib.Omega.{arith}
 use lib.ListN.{drop}
 use Rattle.types.specs.Table.{type_at}

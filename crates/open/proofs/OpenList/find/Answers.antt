@@ -1,5 +1,4 @@
 -- `open::OpenList::find` meets its contract: from the i-th entry on as from the first. Assumes nothing.
-use Prim.Native.Nat.{◌-◌}
 use mathlib.Core.Path.{◌≡◌, refl, sym, ◌∙◌}
 use native.Mathlib.Omega.{arith}
 use lib.ListN.{length}

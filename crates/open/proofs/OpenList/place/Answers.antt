@@ -1,5 +1,4 @@
 -- `open::OpenList::place` meets its contract: what stands before the i-th entry stays. Assumes nothing.
-use Prim.Native.Nat.{◌-◌}
 use mathlib.Core.Path.{◌≡◌, refl}
 use native.Mathlib.Omega.{arith}
 use lib.ListN.{length}

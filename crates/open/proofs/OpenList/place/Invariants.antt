@@ -1,5 +1,5 @@
 -- `open::OpenList::place` meets its contract: what stands before the i-th entry stays. Assumes nothing.
-use Prim.Native.Nat.{◌+◌, ◌-◌, ◌≤◌}
+use Prim.Native.Nat.{◌-◌, ◌≤◌}
 use mathlib.Core.Path.{◌≡◌}
 use lib.ListN.{take, drop}
 use Rattle.open.specs.Open.{opened}

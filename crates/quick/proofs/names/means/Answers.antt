@@ -1,5 +1,5 @@
 -- The loop's invariant: the name means from entry j on what it means in the whole scope, and entry j is of its chain. Assumes nothing.
-use Prim.Native.Nat.{ℕ, ◌-◌, ◌%◌}
+use Prim.Native.Nat.{ℕ, ◌%◌}
 use mathlib.Core.Path.{◌≡◌, sym, ap, ◌∙◌}
 use native.Mathlib.Omega.{arith}
 use Rattle.meaning.specs.Typing.{given}

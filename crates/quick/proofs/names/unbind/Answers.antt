@@ -1,5 +1,5 @@
 -- The loop's invariant: the chains are those of the names that are left. Assumes nothing.
-use Prim.Native.Nat.{suc, ◌+◌, ◌-◌}
+use Prim.Native.Nat.{suc, ◌+◌}
 use mathlib.Core.Path.{◌≡◌, subst}
 use native.Mathlib.Omega.{arith}
 use Rattle.quick.specs.Names.{NamesChained}

@@ -1,5 +1,4 @@
 -- The loop's invariant: where the first k trees begin and end.
-use Prim.Native.Nat.{◌-◌}
 use mathlib.Core.Path.{sym, ◌∙◌}
 use native.Mathlib.Omega.{arith}
 use Rattle.layout.proofs.Tables.{row-table-length}

@@ -1,7 +1,7 @@
 -- The loop's invariant: the first k are the names.
 use mathlib.Core.Path.{◌≡◌, refl, ap, sym, ◌∙◌}
 use native.Mathlib.Omega.{arith}
-use Prim.Native.Nat.{ℕ, ◌-◌}
+use Prim.Native.Nat.{ℕ}
 use lib.ListN.{take, length-set}
 use Rattle.layout.specs.Rows.{type_table}
 use Rattle.meaning.specs.Types.{form_of, params, names as names_of}

@@ -1,7 +1,6 @@
 -- The loop's invariant: the rows counted and those left are all.
 use mathlib.Core.Path.{ap}
 use native.Mathlib.Omega.{arith}
-use Prim.Native.Nat.{◌-◌}
 use lib.ListN.{length}
 use Rattle.layout.specs.Rows.{row_table}
 use Rattle.layout.proofs.Tables.{row-table-length}

@@ -1,7 +1,7 @@
 -- A row and two sides, one behind the other.
 use mathlib.Core.Path.{◌≡◌, refl, ap, ◌∙◌, subst}
 use native.Mathlib.Omega.{arith}
-use Prim.Native.Nat.{ℕ, ◌+◌}
+use Prim.Native.Nat.{ℕ}
 use mathlib.Core.List.{List, ◌∷◌, [], ◌++◌}
 use lib.ListN.{length, take}
 use Rattle.layout.specs.Rows.{type_table, row_table}

@@ -2,7 +2,7 @@
 use mathlib.Core.Path.{refl, sym, ◌∙◌}
 use borrow.Author.Tests.{eq-eqb, ne_eqb}
 use Rattle.meaning.specs.Bytes.{◌∧ᵇ◌}
-use Rattle.meaning.specs.Types.{types, empty}
+use Rattle.meaning.specs.Types.{empty}
 use Rattle.rules.proofs.ByRule.{rule-cons}
 use Rattle.rules.proofs.kinds.cons_ok.Goals as goal
 

@@ -1,7 +1,7 @@
 -- The rule's five tests.
 use mathlib.Core.Path.{refl, sym, ◌∙◌}
 use Rattle.meaning.specs.Bytes.{◌∧ᵇ◌}
-use Rattle.meaning.specs.Types.{types, empty}
+use Rattle.meaning.specs.Types.{empty}
 use Rattle.rules.proofs.ByRule.{is_eq, not-eq, rule-fix}
 use Rattle.rules.proofs.kinds.fix_ok.Goals as goal
 

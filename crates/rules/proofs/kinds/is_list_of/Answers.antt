@@ -2,7 +2,6 @@
 use mathlib.Core.Path.{refl, sym, ◌∙◌}
 use lib.Dec.{eqb}
 use Rattle.meaning.specs.Bytes.{◌∧ᵇ◌}
-use Rattle.meaning.specs.Types.{types}
 use Rattle.rules.proofs.ByRule.{is_eq, not-eq, list-says}
 use Rattle.rules.proofs.kinds.is_list_of.Goals as goal
 

@@ -1,7 +1,7 @@
 -- The rule's two tests.
 use mathlib.Core.Path.{refl, sym, ◌∙◌}
 use Rattle.meaning.specs.Bytes.{◌∧ᵇ◌}
-use Rattle.meaning.specs.Types.{types, empty}
+use Rattle.meaning.specs.Types.{empty}
 use Rattle.rules.proofs.ByRule.{is_eq, not-eq, rule-lambda}
 use Rattle.rules.proofs.kinds.lambda_ok.Goals as goal
 

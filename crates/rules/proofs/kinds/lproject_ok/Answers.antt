@@ -2,7 +2,7 @@
 use Prim.Native.Nat.{ℕ}
 use mathlib.Core.Path.{refl, sym, ap, ◌∙◌}
 use Rattle.meaning.specs.Bytes.{◌∧ᵇ◌}
-use Rattle.meaning.specs.Types.{form_no, types, empty}
+use Rattle.meaning.specs.Types.{form_no, empty}
 use Rattle.rules.specs.Forms.{says}
 use Rattle.rules.proofs.ByRule.{is_eq, not-eq, rule-lproject}
 use Rattle.rules.proofs.kinds.lproject_ok.Goals as goal

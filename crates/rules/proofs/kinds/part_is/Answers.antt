@@ -2,7 +2,7 @@
 use Prim.Native.Nat.{ℕ}
 use mathlib.Core.Path.{sym, ap}
 use mathlib.Core.Option.{Option}
-use Rattle.meaning.specs.Types.{parts, types}
+use Rattle.meaning.specs.Types.{parts}
 use Rattle.meaning.specs.Typing.{given}
 use Rattle.rules.specs.Forms.{says, part_types}
 use Rattle.rules.proofs.ByPart.{types-length, place_none, place_at, place-beyond}

@@ -1,9 +1,9 @@
 -- The loop's invariant: the parts from the k-th on answer as all of them do.
-use Prim.Native.Nat.{◌+◌, ◌-◌}
+use Prim.Native.Nat.{◌+◌}
 use mathlib.Core.Path.{refl, sym, ◌∙◌}
 use lib.ListN.{drop, length-drop}
 use Rattle.meaning.specs.Bytes.{◌∧ᵇ◌}
-use Rattle.meaning.specs.Types.{parts, types}
+use Rattle.meaning.specs.Types.{parts}
 use Rattle.rules.specs.Forms.{says}
 use Rattle.rules.proofs.ByRule.{is_eq, not-eq}
 use Rattle.rules.proofs.ByPart.{params_same, params-lengths, params-end}

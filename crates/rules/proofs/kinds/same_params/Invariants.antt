@@ -2,7 +2,7 @@
 use Prim.Native.Nat.{◌+◌, ◌-◌, ◌≤◌}
 use mathlib.Core.Path.{◌≡◌}
 use lib.ListN.{drop}
-use Rattle.meaning.specs.Types.{parts, types}
+use Rattle.meaning.specs.Types.{parts}
 use Rattle.meaning.specs.Typing.{same_params}
 use Rattle.rules.specs.Forms.{says}
 use Rattle.rules.proofs.kinds.same_params.Given as goal

@@ -2,7 +2,7 @@
 use mathlib.Core.Path.{◌≡◌, refl, sym, ap, ◌∙◌}
 use lib.Dec.{eqb}
 use Rattle.meaning.specs.Bytes.{◌∧ᵇ◌}
-use Rattle.meaning.specs.Types.{result_no, types, empty}
+use Rattle.meaning.specs.Types.{result_no, empty}
 use Rattle.meaning.specs.Typing.{when_list}
 use Rattle.rules.specs.Forms.{says, forms, is_function}
 use Rattle.rules.proofs.ByRule.{is_eq, not-eq, rule-zip}

@@ -1,5 +1,5 @@
 -- The loop's invariant: the parts from the k-th on, by what is left of the mask, answer as all of them do.
-use Prim.Native.Nat.{◌-◌, ◌%◌}
+use Prim.Native.Nat.{◌%◌}
 use mathlib.Core.Path.{◌≡◌, refl, sym, ◌∙◌}
 use lib.Dec.{eqb}
 use lib.ListN.{get_or, length-drop}

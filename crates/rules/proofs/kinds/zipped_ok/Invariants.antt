@@ -2,7 +2,7 @@
 use Prim.Native.Nat.{◌-◌, ◌≤◌}
 use mathlib.Core.Path.{◌≡◌}
 use lib.ListN.{drop}
-use Rattle.meaning.specs.Types.{parts, types}
+use Rattle.meaning.specs.Types.{parts}
 use Rattle.meaning.specs.Typing.{zipped_ok}
 use Rattle.rules.specs.Forms.{says, forms}
 use Rattle.rules.proofs.kinds.zipped_ok.Given as goal

@@ -1,9 +1,8 @@
 -- The loop's invariant: the names from the k-th on answer as all of them do.
-use Prim.Native.Nat.{◌-◌}
 use mathlib.Core.Path.{sym, ap, ◌∙◌}
 use mathlib.Core.List.{List}
 use lib.ListN.{drop_of_length-le}
-use Rattle.meaning.specs.Types.{Param, types, parts, find}
+use Rattle.meaning.specs.Types.{Param, parts, find}
 use Rattle.rules.specs.Forms.{says}
 use Rattle.rules.proofs.ByRule.{params-few, params-high, params-all}
 use Rattle.rules.proofs.ByPart.{parts-front}

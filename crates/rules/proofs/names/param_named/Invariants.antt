@@ -2,7 +2,7 @@
 use Prim.Native.Nat.{◌-◌, ◌≤◌}
 use mathlib.Core.Path.{◌≡◌}
 use lib.ListN.{drop}
-use Rattle.meaning.specs.Types.{types, params, parts, find}
+use Rattle.meaning.specs.Types.{params, parts, find}
 use Rattle.rules.specs.Forms.{says, forms}
 use Rattle.rules.proofs.names.param_named.Given as goal
 

@@ -1,5 +1,4 @@
 -- `settle::verdict::first_unfit` meets its contract: from row i on as from the first. Assumes nothing.
-use Prim.Native.Nat.{◌-◌}
 use mathlib.Core.Path.{sym, ◌∙◌}
 use mathlib.Core.List.{[]}
 use native.Mathlib.Omega.{arith}

@@ -1,7 +1,7 @@
 -- A native function binds its type's names, a let its own, another row none.
 use mathlib.Core.Path.{refl, sym, ap, ◌∙◌}
 use mathlib.Core.List.{List, []}
-use Rattle.meaning.specs.Types.{Param, types, find}
+use Rattle.meaning.specs.Types.{Param, find}
 use Rattle.rules.specs.Forms.{forms}
 use Rattle.rules.proofs.Finding.{find-here, find-later, find_none}
 use Rattle.typing.proofs.ByRow.{binds-native, binds-let, binds-none}

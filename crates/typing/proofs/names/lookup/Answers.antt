@@ -1,7 +1,6 @@
 -- The loop's invariant: the binders from entry e on answer as those from v on do; each entry names an earlier row.
 use Prim.Native.Nat.{◌-◌}
 use mathlib.Core.Path.{refl, sym, ap, ◌∙◌}
-use Rattle.meaning.specs.Types.{types}
 use Rattle.layout.specs.Rows.{term_rows}
 use Rattle.rules.specs.Forms.{forms}
 use Rattle.rules.specs.Named.{named}

@@ -1,8 +1,7 @@
 -- The loop's invariant: the binders from entry e on answer as those from v on do; each entry names an earlier row.
-use Prim.Native.Nat.{◌-◌, ◌/◌, ◌≤◌}
+use Prim.Native.Nat.{◌/◌, ◌≤◌}
 use mathlib.Core.Path.{◌≡◌}
 use lib.ListN.{length}
-use Rattle.meaning.specs.Types.{types}
 use Rattle.layout.specs.Rows.{term_rows}
 use Rattle.rules.specs.Forms.{forms}
 use Rattle.typing.specs.Scope.{chain}
