@@ -18,12 +18,10 @@ pub returns-then-place-eq0 : goal.returns-then-place-eq0
 returns-then-place-eq0 c =
     let if1 = c.if-kind-eq6 in
     let if2 = c.if-kind-ne19 in
-    let if3 = c.if-place-eq0 in
-    rw (ne_eqb _ 6 if1.false, eq-eqb _ 19 if2.false, eq-eqb _ 0 if3.true) refl
+    rw (ne_eqb _ 6 if1.false, eq-eqb _ 19 if2.false, eq-eqb _ 0 c.if-place-eq0.true) refl
 
 pub returns : goal.returns
 returns c =
     let if1 = c.if-kind-eq6 in
     let if2 = c.if-kind-ne19 in
-    let if3 = c.if-place-eq0 in
-    rw (ne_eqb _ 6 if1.false, eq-eqb _ 19 if2.false, ne_eqb _ 0 if3.false) refl
+    rw (ne_eqb _ 6 if1.false, eq-eqb _ 19 if2.false, ne_eqb _ 0 c.if-place-eq0.false) refl
