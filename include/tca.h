@@ -127,7 +127,7 @@ typedef struct {
  * call, next call number 1. Refused: refusal TCA_LENGTH to TCA_TYPING, and no byte of the record is changed. The file
  * is never changed.
  *
- * It uses no heap and under 30 KiB of stack (measured on the deepest programs, not proved).
+ * It uses no heap and under 26 KiB of stack (measured on the deepest programs, not proved).
  */
 tca_verdict tca_load(const uint8_t *file, size_t file_len, uint8_t *record, size_t record_len);
 
@@ -142,7 +142,7 @@ tca_verdict tca_load(const uint8_t *file, size_t file_len, uint8_t *record, size
  * Ran: the record holds the term after so many steps. After TCA_SENT the work buffer holds the call and zeros, after
  * other answers only zeros. Refused: no byte of either buffer is changed.
  *
- * It uses no heap and under 57 KiB of stack (measured on the deepest records, not proved).
+ * It uses no heap and under 50 KiB of stack (measured on the deepest records, not proved).
  *
  * It is declared where TCA_RUN is defined, and comes with the library's run: an archive without it (tools/has-run tells)
  * cannot be linked with a program that calls it.
@@ -160,7 +160,7 @@ tca_run_answer tca_run(uint8_t *record, size_t record_len, uint8_t *work, size_t
  * Accepted: refusal TCA_ACCEPTED, place 0; the reply's rows stand wherever the call did, the call is open no longer, and
  * the work buffer holds only zeros. Refused: no byte of either buffer is changed. The reply is never changed.
  *
- * It uses no heap and under 34 KiB of stack (measured on the deepest records, not proved).
+ * It uses no heap and under 27 KiB of stack (measured on the deepest records, not proved).
  */
 tca_verdict tca_reply(uint8_t *record, size_t record_len, uint8_t *work, size_t work_len, const uint8_t *reply,
                       size_t reply_len);

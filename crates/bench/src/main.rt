@@ -25,7 +25,7 @@ fn play(rt: &HostRuntime, file: &[u8], kept: &mut [u8], work: &mut [u8]) -> io::
     println!(rt; "{} {} {}", a.answer, a.steps, rows)
 }
 
-// Bytes are read until the buffer is full or the input ends; how many.
+// Bytes are read until the buffer is full or the input ends; how many. A while: how many bytes a turn reads is known only once they are read.
 fn read_full(input: &mut impl Read, buf: &mut [u8]) -> io::Result<usize>
     ensures { IfOk result (λ n. n ≤ length buf.old) }
 {

@@ -24,7 +24,7 @@ pub fn renew_rows(kept: &mut [u8], m: Limits, rows: usize)
 
 // Another open list and next number.
 pub fn renew_calls(kept: &mut [u8], m: Limits, calls: OpenList, next: u32)
-    requires { (length kept.old ≡ record_bytes (board m)) × (calls.count ≤ 64) × (calls.count ≤ m.calls) }
+    requires { (length kept.old ≡ record_bytes (board m)) × (calls.count ≤ m.calls) }
     ensures { (es : List Entry) → Lists calls es → CallsRenewed (board m) kept.old kept.new es next }
 {
     let from = layout::calls_at(m);

@@ -1,17 +1,17 @@
 -- Numbers and rows by their places, and tables of rows. Assumes nothing.
 use Prim.Native.Nat.{ℕ, zero, suc, ◌+◌, ◌*◌, ◌<◌, ◌≤◌}
 use mathlib.Core.Path.{◌≡◌, refl, ap, sym, ◌∙◌}
-use mathlib.Core.List.{List, [], ◌∷◌, ◌++◌, append_assoc}
+use mathlib.Core.List.{List, [], ◌∷◌, ◌++◌}
 use native.Mathlib.Omega.{arith}
-use native.Mathlib.Nat.{add-zero, add_assoc, le_of_eq}
+use native.Mathlib.Nat.{add-zero, add_assoc}
 use native.Mathlib.Numerals.{add-one}
-use lib.ListN.{length, get_or, take, drop, set, replicate, length-drop, length-replicate, get_or-replicate}
-use lib.Seq.{drop-drop, get_or-drop, take_all, paste, paste-suc, sets, sets-eq}
+use lib.ListN.{length, get_or, drop, set, replicate, length-drop}
+use lib.Seq.{drop-drop, get_or-drop, paste, paste-suc, sets, sets-eq}
 use Rattle.meaning.specs.Bytes.{Layout, number, spell, width, read, write, reads, type_row, term_row, record_head}
 use Rattle.meaning.specs.Records.{record_mark}
 use Rattle.meaning.proofs.Bytes.Layouts.{number_at, reads_at}
 use Rattle.meaning.specs.Types.{form_no, parts_no, result_no}
-use Rattle.meaning.specs.Terms.{kind_no, n_no, type_no, word_no}
+use Rattle.meaning.specs.Terms.{kind_no, type_no}
 use Rattle.layout.specs.declared.Row.{Row}
 use Rattle.layout.specs.Rows.{numbers}
 
@@ -108,14 +108,8 @@ module _ (r : Row) (x : List ℕ) (e : numbers r ≡ x) where
   pub row-kind : r.kind ≡ kind_no x
   row-kind = ap (λ (l : List ℕ). get_or l 0 0) e
 
-  pub row_n : r.n ≡ n_no x
-  row_n = ap (λ (l : List ℕ). get_or l 1 0) e
-
   pub row_type : r.ty ≡ type_no x
   row_type = ap (λ (l : List ℕ). get_or l 2 0) e
-
-  pub row_word : r.word ≡ word_no x
-  row_word = ap (λ (l : List ℕ). get_or l 3 0) e
 
 -- Copying --------------------------------------------------------------------------------------------------------
 
@@ -124,24 +118,9 @@ module _ (d : List ℕ) (at : ℕ) (s : List ℕ) (i : ℕ) (x : List ℕ) (e : 
   stored : (v : ℕ) → at + i < length d → i < length s → v ≡ get_or s i 0 → set x (at + i) v ≡ paste d at s (i + 1)
   stored v h k q = rw (e, q, add-one i) (paste-suc d at s i 0 h k)
 
-  stored-all : (n : ℕ) → i ≡ n → x ≡ take at d ++ (take n s ++ drop (at + n) d)
-  stored-all n q = e ∙ rw (q, append_assoc (take at d) (take n s) (drop (at + n) d))
-
 module _ (d : List ℕ) (at : ℕ) (s : List ℕ) (from i : ℕ) (x : List ℕ) (e : x ≡ paste d at (drop from s) i) where
   pub copied_more : at + i < length d → from + i < length s → set x (at + i) (get_or s (from + i) 0) ≡ paste d at (drop from s) (i + 1)
   copied_more h k = stored d at (drop from s) i x e _ h (rw length-drop (omega arith)) (sym (get_or-drop from s i 0))
-
-  pub copied_all : (n : ℕ) → i ≡ n → x ≡ take at d ++ (take n (drop from s) ++ drop (at + n) d)
-  copied_all n q = stored-all d at (drop from s) i x e n q
-
-module _ (d : List ℕ) (from n i : ℕ) (x : List ℕ) (e : x ≡ paste d from (replicate n 0) i) where
-  pub cleared_more : from + i < length d → i < n → set x (from + i) 0 ≡ paste d from (replicate n 0) (i + 1)
-  cleared_more h k = stored d from (replicate n 0) i x e 0 h (rw length-replicate k) (sym (get_or-replicate n i 0 0 k))
-
-  pub cleared-all : (to : ℕ) → i ≡ n → to ≡ from + n → x ≡ take from d ++ (replicate n 0 ++ drop to d)
-  cleared-all to q t =
-      stored-all d from (replicate n 0) i x e n q
-      ∙ rw (t, take_all {A = ℕ} n (replicate n 0) (le_of_eq (length-replicate n 0)))
 
 -- Runs of stores -------------------------------------------------------------------------------------------------
 
@@ -173,3 +152,6 @@ head-written l a b c types rows calls next program h e f g =
     g
     ∙ ap (λ (x : List ℕ). sets x 12 (spell 4 next ++ (spell 2 program ++ spell 2 0))) (f ∙ ap (λ (x : List ℕ). sets x 6 (spell 2 types ++ (spell 2 rows ++ spell 2 calls))) e)
     ∙ sets-front (write record_head (record_mark ++ (types ∷ rows ∷ calls ∷ next ∷ program ∷ 0 ∷ []))) l 20 refl h
+
+-- What the reads of this crate are proved by, beside what is tried at every goal.
+pub ruleset places = (number-2, number-4, form-at, parts_at, result-at, name-at, type_at)

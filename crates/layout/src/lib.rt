@@ -1,12 +1,16 @@
 // Numbers and rows in lent bytes, by the layouts of the meaning: read by value, written, copied, cleared.
 #![tactic(auto)]
 
-ghost use Rattle.std.specs.Prelude.{◌≡◌, ◌++◌, ◌+◌, ◌*◌, ◌-◌, ◌/◌, ◌≤◌, ◌<◌, length, get_or, take, drop, replicate, [], ◌∷◌};
+pub mod forms;
+pub mod kinds;
+pub mod views;
+
+ghost use Rattle.std.specs.Prelude.{Bool, List, ℕ, ◌≡◌, ◌++◌, ◌+◌, ◌*◌, ◌-◌, ◌/◌, ◌≤◌, ◌<◌, length, get_or, take, drop, replicate, [], ◌∷◌};
 ghost use Rattle.std.proofs.lemmas.List.Edits.{sets};
 ghost use Rattle.meaning.specs.Bytes.{number, spell, read, write, type_row, term_row, record_head, calls_at, rows_at, record_bytes};
-ghost use Rattle.meaning.specs.Records.{record_mark};
+ghost use Rattle.meaning.specs.Records.{record_mark, first_not};
 ghost use Rattle.meaning.specs.Types.{form_no, parts_no, result_no};
-ghost use Rattle.layout.specs.Rows.{numbers, board};
+ghost use Rattle.layout.specs.Rows.{numbers, row_table, Tells, board};
 
 // The edition of files, records and rows that is read and written.
 pub const EDITION: u16 = 1;
@@ -65,13 +69,6 @@ pub const CALL_COUNT_AT: usize = 8;
 
 pub const CALL_TYPE_AT: usize = 10;
 
-// What a search for a row finds.
-#[derive(Clone, Copy)]
-pub enum Found {
-    At(u32),
-    Nothing,
-}
-
 // A term row.
 #[derive(Clone, Copy)]
 pub struct Row {
@@ -94,48 +91,41 @@ pub struct Limits {
 }
 
 // Where the calls and the rows of a record begin, and its length.
+#[tactic(auto, unfolding(meaning::specs::Bytes::calls_at, meaning::specs::Bytes::width))]
 pub fn calls_at(m: Limits) -> usize
     ensures { result ≡ calls_at (board m) }
 {
     RECORD_HEAD + TYPE_ROW * m.types as usize
 }
 
+#[tactic(auto, unfolding(meaning::specs::Bytes::rows_at, meaning::specs::Bytes::calls_at, meaning::specs::Bytes::width))]
 pub fn rows_at(m: Limits) -> usize
     ensures { result ≡ rows_at (board m) }
 {
     calls_at(m) + ENTRY_ROW * m.calls as usize
 }
 
+#[tactic(auto, unfolding(meaning::specs::Bytes::record_bytes, meaning::specs::Bytes::rows_at, meaning::specs::Bytes::calls_at, meaning::specs::Bytes::width))]
 pub fn record_bytes(m: Limits) -> usize
     ensures { result ≡ record_bytes (board m) }
 {
     rows_at(m) + TERM_ROW * m.rows as usize
 }
 
-fn u16_of(a: u8, b: u8) -> u16
-    ensures { result ≡ a + 256 * b }
-{
-    a as u16 + 256 * b as u16
-}
-
-fn u32_of(low: u16, high: u16) -> u32
-    ensures { result ≡ low + 65536 * high }
-{
-    low as u32 + 65536 * high as u32
-}
-
+#[tactic(auto, using(crate::proofs::Laws::places))]
 pub fn u16_at(s: &[u8], at: usize) -> u16
     requires { at + 2 ≤ length s.now }
     ensures { result ≡ number 2 (drop at s.now) }
 {
-    u16_of(s[at], s[at + 1])
+    u16::from_le_bytes([s[at], s[at + 1]])
 }
 
+#[tactic(auto, using(crate::proofs::Laws::places))]
 pub fn u32_at(s: &[u8], at: usize) -> u32
     requires { at + 4 ≤ length s.now }
     ensures { result ≡ number 4 (drop at s.now) }
 {
-    u32_of(u16_at(s, at), u16_at(s, at + 2))
+    u32::from_le_bytes([s[at], s[at + 1], s[at + 2], s[at + 3]])
 }
 
 // How many rows a table of types and a table of terms has.
@@ -165,7 +155,23 @@ pub fn row_at(rows: &[u8], i: usize) -> Row
     }
 }
 
+// The first row for which a test fails.
+#[tactic(auto, using(crate::proofs::FirstNot::by_rows))]
+pub fn first_failing<F: Fn(Row) -> bool>(rows: &[u8], test: F) -> Option<u32>
+    requires few { length rows.now ≤ 32768 }
+    requires callable { F.IsAlwaysCallable test }
+    ensures { (p : List ℕ → Bool) → Tells (F.post test) p → result ≡ first_not p (row_table rows.now) }
+{
+    for i in 0..term_rows(rows) {
+        if !test(row_at(rows, i)) {
+            return Some(i as u32);
+        }
+    }
+    None
+}
+
 // The fields of row t of a table of types.
+#[tactic(auto, using(crate::proofs::Laws::places))]
 pub fn form_no(types: &[u8], t: usize) -> u8
     requires { 36 * t + 36 ≤ length types.now }
     ensures { result ≡ form_no (read type_row (drop (36 * t) types.now)) }
@@ -173,6 +179,7 @@ pub fn form_no(types: &[u8], t: usize) -> u8
     types[TYPE_ROW * t]
 }
 
+#[tactic(auto, using(crate::proofs::Laws::places))]
 pub fn parts_no(types: &[u8], t: usize) -> u8
     requires { 36 * t + 36 ≤ length types.now }
     ensures { result ≡ parts_no (read type_row (drop (36 * t) types.now)) }
@@ -180,6 +187,7 @@ pub fn parts_no(types: &[u8], t: usize) -> u8
     types[TYPE_ROW * t + 1]
 }
 
+#[tactic(auto, using(crate::proofs::Laws::places))]
 pub fn result_no(types: &[u8], t: usize) -> u16
     requires { 36 * t + 36 ≤ length types.now }
     ensures { result ≡ result_no (read type_row (drop (36 * t) types.now)) }
@@ -188,6 +196,7 @@ pub fn result_no(types: &[u8], t: usize) -> u16
 }
 
 // The k-th pair's name and type, counted from 0.
+#[tactic(auto, using(crate::proofs::Laws::places))]
 pub fn name_no(types: &[u8], t: usize, k: usize) -> u16
     requires { (36 * t + 36 ≤ length types.now) × (k < 8) }
     ensures { result ≡ get_or (read type_row (drop (36 * t) types.now)) (3 + 2 * k) 0 }
@@ -195,6 +204,7 @@ pub fn name_no(types: &[u8], t: usize, k: usize) -> u16
     u16_at(types, TYPE_ROW * t + 4 + 4 * k)
 }
 
+#[tactic(auto, using(crate::proofs::Laws::places))]
 pub fn type_no(types: &[u8], t: usize, k: usize) -> u16
     requires { (36 * t + 36 ≤ length types.now) × (k < 8) }
     ensures { result ≡ get_or (read type_row (drop (36 * t) types.now)) (4 + 2 * k) 0 }
@@ -219,43 +229,42 @@ pub fn word_of(x: u16) -> u32
 pub fn less_one(n: usize) -> usize
     ensures { result ≡ n - 1 }
 {
-    if n == 0 {
-        return 0;
-    }
-    n - 1
+    n.saturating_sub(1)
 }
 
+#[tactic(auto, unfolding(meaning::specs::Bytes::spell))]
 pub fn put16_at(buf: &mut [u8], at: usize, x: u16)
     requires { at + 2 ≤ length buf.old }
     ensures { buf.new ≡ sets buf.old at (spell 2 x) }
 {
-    buf[at] = (x % 256) as u8;
-    buf[at + 1] = (x / 256 % 256) as u8;
+    let [low, high] = x.to_le_bytes();
+    buf[at] = low;
+    buf[at + 1] = high;
 }
 
+#[tactic(auto, unfolding(meaning::specs::Bytes::spell))]
 pub fn put32_at(buf: &mut [u8], at: usize, x: u32)
     requires { at + 4 ≤ length buf.old }
     ensures { buf.new ≡ sets buf.old at (spell 4 x) }
 {
-    buf[at] = (x % 256) as u8;
-    buf[at + 1] = (x / 256 % 256) as u8;
-    buf[at + 2] = (x / 256 / 256 % 256) as u8;
-    buf[at + 3] = (x / 256 / 256 / 256 % 256) as u8;
+    let [first, second, third, fourth] = x.to_le_bytes();
+    buf[at] = first;
+    buf[at + 1] = second;
+    buf[at + 2] = third;
+    buf[at + 3] = fourth;
 }
 
-// n bytes of src, from place `from` on, go to dst from place `at` on.
+// n bytes of src, from place `from` on, go to dst from place `at` on. A for: `copy_from_slice` is slower where the bytes are few.
 pub fn copy_to(dst: &mut [u8], at: usize, src: &[u8], from: usize, n: usize)
     requires { (at + n ≤ length dst.old) × (from + n ≤ length src.now) }
     ensures { dst.new ≡ take at dst.old ++ (take n (drop from src.now) ++ drop (at + n) dst.old) }
 {
-    let mut i = 0;
-    while i < n {
+    for i in 0..n {
         dst[at + i] = src[from + i];
-        i += 1;
     }
 }
 
-// The same of one row: all of it is read before it is written, so that it goes at once.
+// The same of one row: all of it is read before it is written, so that it goes at once. Eight stores: `copy_from_slice` of eight bytes is slower.
 pub fn copy_row(dst: &mut [u8], at: usize, src: &[u8], from: usize)
     requires { (at + 8 ≤ length dst.old) × (from + 8 ≤ length src.now) }
     ensures { dst.new ≡ take at dst.old ++ (take 8 (drop from src.now) ++ drop (at + 8) dst.old) }
@@ -283,12 +292,7 @@ pub fn clear(dst: &mut [u8], from: usize, to: usize)
     requires { (from ≤ to) × (to ≤ length dst.old) }
     ensures { dst.new ≡ take from dst.old ++ (replicate (to - from) 0 ++ drop to dst.old) }
 {
-    let n = to - from;
-    let mut i = 0;
-    while i < n {
-        dst[from + i] = 0;
-        i += 1;
-    }
+    dst[from..to].fill(0);
 }
 
 // The record's first six bytes: mark, version, a zero byte.
@@ -296,12 +300,7 @@ fn write_mark(kept: &mut [u8])
     requires { 6 ≤ length kept.old }
     ensures { kept.new ≡ sets kept.old 0 (84 ∷ 67 ∷ 82 ∷ 1 ∷ 0 ∷ 0 ∷ []) }
 {
-    kept[0] = 84;
-    kept[1] = 67;
-    kept[2] = 82;
-    kept[3] = 1;
-    kept[4] = 0;
-    kept[5] = 0;
+    kept[..6].copy_from_slice(b"TCR\x01\0\0");
 }
 
 // The counts of types, rows and open calls.

@@ -1,10 +1,10 @@
--- Document 01's sentences on steps, binders and replies, each as it holds for every term. Assumes nothing.
+-- What is said in prose of steps, binders and replies, each sentence as it holds for every term.
 use Prim.Native.Nat.{ℕ}
 use mathlib.Core.Path.{◌≡◌, refl, ap, sym, ◌∙◌}
 use mathlib.Core.Bool.{Bool, true, false, cond, false≢true}
 use mathlib.Core.List.{List, [], ◌∷◌, ◌++◌, append_assoc, append-nil}
 use mathlib.Core.Logic.{◌↔◌}
-use mathlib.Core.Option.{Option, none, some}
+use Rattle.std.specs.Prelude.{Option, None, Some}
 use borrow.Author.Tests.{eqb-true}
 use lib.Dec.{eqb}
 use Rattle.meaning.specs.Bytes.{◌∧ᵇ◌}
@@ -28,14 +28,14 @@ module _ (form : ℕ → Form) where
   at_once k h u f c t e = rw e refl
 
   -- "put the arguments or bound term, unevaluated, for the free names at once"
-  pub let-at-once : (k x u : ℕ) (a b : Tree) → step form k (node (bind x) u (more a (more b end))) ≡ go none (put form (assign (record { name = x; type = ty_of a } ∷ []) (more a end)) b)
+  pub let-at-once : (k x u : ℕ) (a b : Tree) → step form k (node (bind x) u (more a (more b end))) ≡ go None (put form (assign (record { name = x; type = ty_of a } ∷ []) (more a end)) b)
   unfolding contract let_step
-  let-at-once k x u a b = at_once k (bind x) u (more a (more b end)) none _ refl
+  let-at-once k x u a b = at_once k (bind x) u (more a (more b end)) None _ refl
 
   pub native-at-once : {n : ℕ} (k u : ℕ) (c : Tree) (args : Forest n) → is 6 c ≡ true
-      → step form k (node (apply n) u (more c args)) ≡ go none (put form (assign (params (form (ty_of c))) args) (kid 1 c))
+      → step form k (node (apply n) u (more c args)) ≡ go None (put form (assign (params (form (ty_of c))) args) (kid 1 c))
   unfolding contract apply_step
-  native-at-once {n} k u c args e = at_once k (apply n) u (more c args) none _ (rw e refl)
+  native-at-once {n} k u c args e = at_once k (apply n) u (more c args) None _ (rw e refl)
 
   -- "Apply of a foreign function: .. else the first argument that can step does"
   pub foreign-waits : {n : ℕ} (k u : ℕ) (c : Tree) (args : Forest n) → is 7 c ≡ true → values args ≡ false
@@ -45,7 +45,7 @@ module _ (form : ℕ → Form) where
 
   -- "all arguments values, then the whole becomes a future with the next number and a call is sent"
   pub foreign-sends : {n : ℕ} (k u : ℕ) (c : Tree) (args : Forest n) → is 7 c ≡ true → values args ≡ true
-      → step form k (node (apply n) u (more c args)) ≡ go (some (record { tool = word_of (head_of c); rows = flats args; result = u })) (node (future k) u end)
+      → step form k (node (apply n) u (more c args)) ≡ go (Some (record { tool = word_of (head_of c); rows = flats args; result = u })) (node (future k) u end)
   unfolding contract apply_step send_step
   foreign-sends {n} k u c args e v = at_once k (apply n) u (more c args) _ _ (rw (not-kind 6 7 c e refl, e, v) refl)
 
@@ -57,52 +57,52 @@ module _ (form : ℕ → Form) where
 
   -- "When all are nil or cons: any nil gives nil; otherwise a cons of the inner function on the heads and the same zip on the tails"
   pub zip-nil : {n : ℕ} (k u : ℕ) (c : Tree) (args : Forest n) → is 15 c ≡ true → ready (n_of (head_of c)) args ≡ true → any_nil (n_of (head_of c)) args ≡ true
-      → step form k (node (apply n) u (more c args)) ≡ go none (node nil u end)
+      → step form k (node (apply n) u (more c args)) ≡ go None (node nil u end)
   unfolding contract apply_step zip_step
-  zip-nil {n} k u c args e r v = at_once k (apply n) u (more c args) none _ (rw (not-kind 6 15 c e refl, not-kind 7 15 c e refl, e, r, v) refl)
+  zip-nil {n} k u c args e r v = at_once k (apply n) u (more c args) None _ (rw (not-kind 6 15 c e refl, not-kind 7 15 c e refl, e, r, v) refl)
 
   pub zip-cons : {n : ℕ} (k u : ℕ) (c : Tree) (args : Forest n) → is 15 c ≡ true → ready (n_of (head_of c)) args ≡ true → any_nil (n_of (head_of c)) args ≡ false
-      → step form k (node (apply n) u (more c args)) ≡ go none (zip_cons form u (n_of (head_of c)) c args)
+      → step form k (node (apply n) u (more c args)) ≡ go None (zip_cons form u (n_of (head_of c)) c args)
   unfolding contract apply_step zip_step
-  zip-cons {n} k u c args e r v = at_once k (apply n) u (more c args) none _ (rw (not-kind 6 15 c e refl, not-kind 7 15 c e refl, e, r, v) refl)
+  zip-cons {n} k u c args e r v = at_once k (apply n) u (more c args) None _ (rw (not-kind 6 15 c e refl, not-kind 7 15 c e refl, e, r, v) refl)
 
   -- "when the child is true or false, nil or cons, a tuple, nil or cons, they reduce at once, elements unevaluated"
-  pub if-true : (k u : ℕ) (c a b : Tree) → is 3 c ≡ true → step form k (node ite u (more c (more a (more b end)))) ≡ go none a
+  pub if-true : (k u : ℕ) (c a b : Tree) → is 3 c ≡ true → step form k (node ite u (more c (more a (more b end)))) ≡ go None a
   unfolding contract if_step
-  if-true k u c a b e = at_once k ite u (more c (more a (more b end))) none a (rw e refl)
+  if-true k u c a b e = at_once k ite u (more c (more a (more b end))) None a (rw e refl)
 
-  pub if-false : (k u : ℕ) (c a b : Tree) → is 4 c ≡ true → step form k (node ite u (more c (more a (more b end)))) ≡ go none b
+  pub if-false : (k u : ℕ) (c a b : Tree) → is 4 c ≡ true → step form k (node ite u (more c (more a (more b end)))) ≡ go None b
   unfolding contract if_step
-  if-false k u c a b e = at_once k ite u (more c (more a (more b end))) none b (rw (not-kind 3 4 c e refl, e) refl)
+  if-false k u c a b e = at_once k ite u (more c (more a (more b end))) None b (rw (not-kind 3 4 c e refl, e) refl)
 
-  pub isnil-nil : (k u : ℕ) (c : Tree) → is 12 c ≡ true → step form k (node isnil u (more c end)) ≡ go none (node (lit (truth true)) u end)
+  pub isnil-nil : (k u : ℕ) (c : Tree) → is 12 c ≡ true → step form k (node isnil u (more c end)) ≡ go None (node (lit (truth true)) u end)
   unfolding contract isnil_step
-  isnil-nil k u c e = at_once k isnil u (more c end) none _ (rw e refl)
+  isnil-nil k u c e = at_once k isnil u (more c end) None _ (rw e refl)
 
-  pub isnil-cons : (k u : ℕ) (c : Tree) → is 13 c ≡ true → step form k (node isnil u (more c end)) ≡ go none (node (lit (truth false)) u end)
+  pub isnil-cons : (k u : ℕ) (c : Tree) → is 13 c ≡ true → step form k (node isnil u (more c end)) ≡ go None (node (lit (truth false)) u end)
   unfolding contract isnil_step
-  isnil-cons k u c e = at_once k isnil u (more c end) none _ (rw (not-kind 12 13 c e refl, e) refl)
+  isnil-cons k u c e = at_once k isnil u (more c end) None _ (rw (not-kind 12 13 c e refl, e) refl)
 
-  pub project-tuple : (k u i : ℕ) (c t : Tree) → is 16 c ≡ true → child i c ≡ some t → step form k (node (project i) u (more c end)) ≡ go none t
+  pub project-tuple : (k u i : ℕ) (c t : Tree) → is 16 c ≡ true → child i c ≡ Some t → step form k (node (project i) u (more c end)) ≡ go None t
   unfolding contract project_step become
-  project-tuple k u i c t e q = at_once k (project i) u (more c end) none t (rw (e, q) refl)
+  project-tuple k u i c t e q = at_once k (project i) u (more c end) None t (rw (e, q) refl)
 
-  pub lproject-nil : (k u i : ℕ) (c : Tree) → is 12 c ≡ true → step form k (node (lproject i) u (more c end)) ≡ go none (node nil u end)
+  pub lproject-nil : (k u i : ℕ) (c : Tree) → is 12 c ≡ true → step form k (node (lproject i) u (more c end)) ≡ go None (node nil u end)
   unfolding contract lproject_step
-  lproject-nil k u i c e = at_once k (lproject i) u (more c end) none _ (rw e refl)
+  lproject-nil k u i c e = at_once k (lproject i) u (more c end) None _ (rw e refl)
 
   -- "List project of a cons gives a cons of the projected head and the list-projected tail"
   pub lproject-cons : (k u i : ℕ) (c : Tree) → is 13 c ≡ true
       → step form k (node (lproject i) u (more c end))
-      ≡ go none (node cons u (more (node (project i) (elem_of (form u)) (more (kid 1 c) end)) (more (node (lproject i) u (more (kid 2 c) end)) end)))
+      ≡ go None (node cons u (more (node (project i) (elem_of (form u)) (more (kid 1 c) end)) (more (node (lproject i) u (more (kid 2 c) end)) end)))
   unfolding contract lproject_step
-  lproject-cons k u i c e = at_once k (lproject i) u (more c end) none _ (rw (not-kind 12 13 c e refl, e) refl)
+  lproject-cons k u i c e = at_once k (lproject i) u (more c end) None _ (rw (not-kind 12 13 c e refl, e) refl)
 
   -- "Fix of a function: the function of the remaining arguments, the first name replaced in its body by the fix term"
   pub fix-at-once : (k u : ℕ) (c : Tree) (p : Param) (ps : List Param) → is 6 c ≡ true → params (form (ty_of c)) ≡ p ∷ ps
-      → step form k (node fix u (more c end)) ≡ go none (node lambda u (more (put form (assign (p ∷ []) (more (node fix u (more c end)) end)) (kid 1 c)) end))
+      → step form k (node fix u (more c end)) ≡ go None (node lambda u (more (put form (assign (p ∷ []) (more (node fix u (more c end)) end)) (kid 1 c)) end))
   unfolding contract fix_step tie
-  fix-at-once k u c p ps e q = at_once k fix u (more c end) none _ (rw (e, q) refl)
+  fix-at-once k u c p ps e q = at_once k fix u (more c end) None _ (rw (e, q) refl)
 
   -- a child's step, in its place
   abbrev pub in_place : Out → (Tree → Tree) → Out
@@ -129,7 +129,7 @@ module _ (form : ℕ → Form) where
   isnil-waits k u c e = by_kind (is 12 c) (is 13 c) e (step form k c)
     where
       by_kind : (p q : Bool) → p ∨ᵇ q ≡ false → (o : Out)
-          → or_else (cond p (go none (node (lit (truth true)) u end)) (cond q (go none (node (lit (truth false)) u end)) stay)) (wrap isnil u (visit (unless (p ∨ᵇ q) 0) o c end stays))
+          → or_else (cond p (go None (node (lit (truth true)) u end)) (cond q (go None (node (lit (truth false)) u end)) stay)) (wrap isnil u (visit (unless (p ∨ᵇ q) 0) o c end stays))
           ≡ in_place o (λ x. node isnil u (more x end))
       by_kind true q e o = absurd (false≢true (sym e))
       by_kind false true e o = absurd (false≢true (sym e))
@@ -203,20 +203,20 @@ module _ (form : ℕ → Form) where
 -- Names ------------------------------------------------------------------------------------------------------------
 
 -- "A hidden name stays"; what is not hidden is put
-pub hidden-stays : (ps : List Param) (σ : Sub) (x t : ℕ) → find ps x ≡ some t → hide ps σ x ≡ none
+pub hidden-stays : (ps : List Param) (σ : Sub) (x t : ℕ) → find ps x ≡ Some t → hide ps σ x ≡ None
 unfolding hide veil
 hidden-stays ps σ x t e = rw e refl
 
-pub seen-put : (ps : List Param) (σ : Sub) (x : ℕ) → find ps x ≡ none → hide ps σ x ≡ σ x
+pub seen-put : (ps : List Param) (σ : Sub) (x : ℕ) → find ps x ≡ None → hide ps σ x ≡ σ x
 unfolding hide veil
 seen-put ps σ x e = rw e refl
 
 -- "The innermost binder wins"
-pub innermost-wins : (Γ : Ctx) (ps : List Param) (x t : ℕ) → find ps x ≡ some t → (Γ ⹁ ps) x ≡ some t
+pub innermost-wins : (Γ : Ctx) (ps : List Param) (x t : ℕ) → find ps x ≡ Some t → (Γ ⹁ ps) x ≡ Some t
 unfolding ◌⹁◌ pick
 innermost-wins Γ ps x t e = rw e refl
 
-pub others-mean : (Γ : Ctx) (ps : List Param) (x : ℕ) → find ps x ≡ none → (Γ ⹁ ps) x ≡ Γ x
+pub others-mean : (Γ : Ctx) (ps : List Param) (x : ℕ) → find ps x ≡ None → (Γ ⹁ ps) x ≡ Γ x
 unfolding ◌⹁◌ pick
 others-mean Γ ps x e = rw e refl
 
@@ -273,7 +273,7 @@ future-bare (lproject i) f e = absurd (false≢true e)
 future-bare (bind x) f e = absurd (false≢true e)
 
 settle-row : (k : ℕ) (v : Tree) (h : Head) (u : ℕ) (f g : Forest (arity h)) (t : Bool) → (eqb (code h) 9 ∧ᵇ eqb (word_of h) k) ≡ t → flats g ≡ settled_rows k (flat v) (flats f)
-    → flat (swap (cond t (some v) none) (node h u g)) ≡ cond t (flat v ++ settled_rows k (flat v) (flats f)) (record { head = h; type = u } ∷ settled_rows k (flat v) (flats f))
+    → flat (swap (cond t (Some v) None) (node h u g)) ≡ cond t (flat v ++ settled_rows k (flat v) (flats f)) (record { head = h; type = u } ∷ settled_rows k (flat v) (flats f))
 unfolding swap flat settled_rows
 settle-row k v h u f g true e q = rw (future-bare h f (left _ _ e)) (sym (append-nil (flat v)))
 settle-row k v h u f g false e q = ap (λ (l : List Row). record { head = h; type = u } ∷ l) q

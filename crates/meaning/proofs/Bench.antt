@@ -1,9 +1,9 @@
--- The proved cases of document 01's bench sheet: one table, one proof, computed on states and carried to bytes by laws. Assumes nothing.
+-- The proved cases of the bench sheet: one table, one proof, computed on states and carried to bytes by laws.
 use Prim.Native.Nat.{ℕ, ◌-◌}
 use mathlib.Core.Path.{◌≡◌, refl, ap, ◌∙◌}
 use mathlib.Core.Bool.{Bool, true, false}
 use mathlib.Core.List.{List, [], ◌∷◌, ◌++◌, map}
-use mathlib.Core.Option.{none, some}
+use Rattle.std.specs.Prelude.{None, Some}
 use borrow.Author.Tests.{ltb-true}
 use lib.Dec.{ltb}
 use lib.ListN.{length, replicate}
@@ -28,11 +28,11 @@ use Rattle.meaning.proofs.Entries.GoodStays.{arm-board, step_stays, reply-stays}
 use Rattle.meaning.proofs.Entries.OnGoodStates.{load-writes, run-good, reply-good}
 use Rattle.meaning.specs.Terms.{str, truth, lit, var, lambda, foreign, apply, future, ite, fix, nil, cons, isnil, zip, tuple, project, lproject, bind, Tree, node, end, more}
 use Rattle.meaning.specs.declared.Refusal.TheVariants.{NotOpen, ReplyTyping, Size}
-use Rattle.meaning.specs.declared.Verdict.{Verdict}
-use Rattle.meaning.specs.declared.Verdict.TheVariants.{Accepted, Refused}
+use Rattle.meaning.specs.Answers.{Verdict}
+use Rattle.std.specs.Prelude.{Ok, Err}
 use Rattle.meaning.specs.declared.Answer.TheVariants.{Value, Waiting, Sent, Budget}
-use Rattle.meaning.specs.declared.Run.{Run}
-use Rattle.meaning.specs.declared.Run.TheVariants.{Ran}
+use Rattle.meaning.specs.Answers.{Run}
+use Rattle.meaning.specs.Answers.{ended_by}
 
 -- Programs -------------------------------------------------------------------------------------------------------
 
@@ -147,14 +147,14 @@ module _ (old : List ℕ) (o : length old ≡ 26132) where
   unfolding load
   loads file = ap (load_verdict arm file) o
 
-  loaded : (file : List ℕ) → AllBytes file → load_verdict arm file 26132 ≡ Accepted → At (load arm file old).record' (loaded_state file)
+  loaded : (file : List ℕ) → AllBytes file → load_verdict arm file 26132 ≡ Ok tt → At (load arm file old).record' (loaded_state file)
   loaded file h e = record { bytes = load-writes arm file old (loads file ∙ e); good = loaded-good arm file 26132 e h arm-board.programs }
 
 module _ (work : List ℕ) (w : length work ≡ 16400) (b : List ℕ) (s : State) (a : At b s) where
   ran : (n : ℕ) → run arm b work n ≡ ran_out arm (runs arm n s)
   ran n = ap (λ (x : List ℕ). run arm x work n) a.bytes ∙ run-good arm arm-small s a.good work n w
 
-  answered : (n : ℕ) → (run arm b work n).answer ≡ Ran (runs arm n s).answer (runs arm n s).made
+  answered : (n : ℕ) → (run arm b work n).answer ≡ ended_by (runs arm n s).answer (runs arm n s).made
   unfolding ran_out
   answered n = ap (λ (x : RunOut). x.answer) (ran n)
 
@@ -173,11 +173,11 @@ module _ (work : List ℕ) (w : length work ≡ 16400) (b : List ℕ) (s : State
   unfolding replied_out
   judged r = ap (λ (x : Replied). x.verdict) (replied r)
 
-  behind-reply : (r : List ℕ) → reply_verdict arm s r ≡ Accepted → At (reply arm b work r).record' (replied_state s r)
+  behind-reply : (r : List ℕ) → reply_verdict arm s r ≡ Ok tt → At (reply arm b work r).record' (replied_state s r)
   unfolding replied_out leaves
   behind-reply r e = record { bytes = ap (λ (x : Replied). x.record') (replied r) ∙ rw e refl; good = reply-stays arm s r a.good e }
 
-  cleared : (r : List ℕ) → reply_verdict arm s r ≡ Accepted → (reply arm b work r).work' ≡ replicate 16400 0
+  cleared : (r : List ℕ) → reply_verdict arm s r ≡ Ok tt → (reply arm b work r).work' ≡ replicate 16400 0
   unfolding replied_out leaves padded
   cleared r e = ap (λ (x : Replied). x.work') (replied r) ∙ rw e refl
 
@@ -234,60 +234,60 @@ abbrev pub Table : List ℕ → List ℕ → Type 0
 Table old work =
     -- if true then str 7 else str 8: 1 step, str 7. Budget 0: BUDGET, 0 steps. The file is 114 bytes; empty input is refused 2
     (length first-file ≡ 114)
-    × ((load arm first-file old).verdict ≡ Accepted)
-    × (answer-of work (load arm first-file old).record' 1000 ≡ Ran Value 1)
+    × ((load arm first-file old).verdict ≡ Ok tt)
+    × (answer-of work (load arm first-file old).record' 1000 ≡ ended_by Value 1)
     × (rows (after_run work (load arm first-file old).record' 1000) ≡ 1)
     × (term (after_run work (load arm first-file old).record' 1000) ≡ text 7)
-    × (answer-of work (load arm first-file old).record' 0 ≡ Ran Budget 0)
-    × ((load arm [] old).verdict ≡ Refused Size)
+    × (answer-of work (load arm first-file old).record' 0 ≡ ended_by Budget 0)
+    × ((load arm [] old).verdict ≡ Err Size)
     -- let p = locate() in {p, p}: 6 rows, then 5; SENT 1; SENT 2; WAITING with 3 rows
-    × ((load arm (program twice) old).verdict ≡ Accepted)
+    × ((load arm (program twice) old).verdict ≡ Ok tt)
     × (rows (opened old twice) ≡ 6)
-    × (answer-of work (opened old twice) 1 ≡ Ran Budget 1)
+    × (answer-of work (opened old twice) 1 ≡ ended_by Budget 1)
     × (rows (after_run work (opened old twice) 1) ≡ 5)
-    × (answer-of work (after_run work (opened old twice) 1) 1000 ≡ Ran (Sent 1) 1)
-    × (answer-of work (opened old twice) 1000 ≡ Ran (Sent 1) 2)
+    × (answer-of work (after_run work (opened old twice) 1) 1000 ≡ ended_by (Sent 1) 1)
+    × (answer-of work (opened old twice) 1000 ≡ ended_by (Sent 1) 2)
     × ((run arm (opened old twice) work 1000).work' ≡ padded 16400 (1 ∷ 0 ∷ 0 ∷ 0 ∷ 9 ∷ 0 ∷ 0 ∷ 0 ∷ 0 ∷ 0 ∷ 0 ∷ 0 ∷ []))
-    × (answer-of work (one-sent old work) 1000 ≡ Ran (Sent 2) 1)
-    × (answer-of work (two-sent old work) 1000 ≡ Ran Waiting 0)
+    × (answer-of work (one-sent old work) 1000 ≡ ended_by (Sent 2) 1)
+    × (answer-of work (two-sent old work) 1000 ≡ ended_by Waiting 0)
     × (rows (two-sent old work) ≡ 3)
     × (term (two-sent old work) ≡ pair (future-of 1) (future-of 2))
     -- Reply str 41 to 2, str 40 to 1: {str 40, str 41}. A second reply to 1: 12. A Bool for 1 while open: 15, place 0
-    × (answer-to work (two-sent old work) (says 2 (text 41)) ≡ Accepted)
-    × (answer-to work (one-back old work) (says 1 (text 40)) ≡ Accepted)
+    × (answer-to work (two-sent old work) (says 2 (text 41)) ≡ Ok tt)
+    × (answer-to work (one-back old work) (says 1 (text 40)) ≡ Ok tt)
     × ((reply arm (one-back old work) work (says 1 (text 40))).work' ≡ replicate 16400 0)
     × (term (both-back old work) ≡ pair (text 40) (text 41))
     × ((state_of arm (both-back old work)).calls ≡ [])
-    × (answer-of work (both-back old work) 1000 ≡ Ran Value 0)
-    × (answer-to work (both-back old work) (says 1 (text 40)) ≡ Refused NotOpen)
-    × (answer-to work (two-sent old work) (says 1 (bool true)) ≡ Refused (ReplyTyping 0))
+    × (answer-of work (both-back old work) 1000 ≡ ended_by Value 0)
+    × (answer-to work (both-back old work) (says 1 (text 40)) ≡ Err NotOpen)
+    × (answer-to work (two-sent old work) (says 1 (bool true)) ≡ Err (ReplyTyping 0))
     -- zip of (if a then b else false) over a, b with [true, false], [true, true]: 17 rows, 22 after one step, [true, false] after 7
     × (rows (opened old (zipped (true ∷ false ∷ []) (true ∷ true ∷ []))) ≡ 17)
     × (rows (after_run work (opened old (zipped (true ∷ false ∷ []) (true ∷ true ∷ []))) 1) ≡ 22)
-    × (answer-of work (opened old (zipped (true ∷ false ∷ []) (true ∷ true ∷ []))) 1000 ≡ Ran Value 7)
+    × (answer-of work (opened old (zipped (true ∷ false ∷ []) (true ∷ true ∷ []))) 1000 ≡ ended_by Value 7)
     × (term (after_run work (opened old (zipped (true ∷ false ∷ []) (true ∷ true ∷ []))) 1000) ≡ bools (true ∷ false ∷ []))
     -- the same with [true, true], [true]: [true] after 4
-    × (answer-of work (opened old (zipped (true ∷ true ∷ []) (true ∷ []))) 1000 ≡ Ran Value 4)
+    × (answer-of work (opened old (zipped (true ∷ true ∷ []) (true ∷ []))) 1000 ≡ ended_by Value 4)
     × (term (after_run work (opened old (zipped (true ∷ true ∷ []) (true ∷ []))) 1000) ≡ bools (true ∷ []))
     -- isnil of cons locate() nil: false, 1 step, nothing sent
-    × (answer-of work (opened old isnil-cons) 1000 ≡ Ran Value 1)
+    × (answer-of work (opened old isnil-cons) 1000 ≡ ended_by Value 1)
     × (term (after_run work (opened old isnil-cons) 1000) ≡ bool false)
     × ((state_of arm (after_run work (opened old isnil-cons) 1000)).next ≡ 1)
     -- second of {locate(), str 3}: str 3, 1 step, nothing sent
-    × (answer-of work (opened old second) 1000 ≡ Ran Value 1)
+    × (answer-of work (opened old second) 1000 ≡ ended_by Value 1)
     × (term (after_run work (opened old second) 1000) ≡ text 3)
     × ((state_of arm (after_run work (opened old second) 1000)).next ≡ 1)
     -- list project of nil: nil, 1 step
-    × (answer-of work (opened old project-nil) 1000 ≡ Ran Value 1)
+    × (answer-of work (opened old project-nil) 1000 ≡ ended_by Value 1)
     × (term (after_run work (opened old project-nil) 1000) ≡ node nil 9 end)
     -- (fix of native f giving f())(): 5 rows, 7, 5; budget 10 ends BUDGET with 5 rows
     × (rows (opened old loop) ≡ 5)
     × (rows (after_run work (opened old loop) 1) ≡ 7)
     × (rows (after_run work (opened old loop) 2) ≡ 5)
-    × (answer-of work (opened old loop) 10 ≡ Ran Budget 10)
+    × (answer-of work (opened old loop) 10 ≡ ended_by Budget 10)
     × (rows (after_run work (opened old loop) 10) ≡ 5)
     -- let x = true in let x = false in x: false after 2
-    × (answer-of work (opened old shadowed) 1000 ≡ Ran Value 2)
+    × (answer-of work (opened old shadowed) 1000 ≡ ended_by Value 2)
     × (term (after_run work (opened old shadowed) 1000) ≡ bool false)
 
 term-at : {b : List ℕ} (s : State) → At b s → term b ≡ s.tree
@@ -391,20 +391,20 @@ waiting-list = node (future 1) 4 end
 -- where the tempting step, or reply, is not the defined one
 pub traps :
     -- let's bound term is put in as it stands
-    (step form 1 twice ≡ go none (pair locate locate))
+    (step form 1 twice ≡ go None (pair locate locate))
     -- a cons below isnil is not entered
-    × (step form 1 isnil-cons ≡ go none (bool false))
+    × (step form 1 isnil-cons ≡ go None (bool false))
     -- a branch of if is not entered, also while the condition waits
     × (step form 2 (node ite 0 (more (node (future 1) 1 end) (more locate (more (text 8) end)))) ≡ stay)
     -- a name below a binder that hides it is not replaced
-    × (step form 1 shadowed ≡ go none (node (bind 6) 1 (more (bool false) (more (node (var 6) 1 end) end))))
+    × (step form 1 shadowed ≡ go None (node (bind 6) 1 (more (bool false) (more (node (var 6) 1 end) end))))
     -- a reply's rows are judged to the last: a list whose tail is of another type, and one whose tail holds another type
-    × (reply_bad form 9 (node cons 9 (more (text 1) (more (node nil 4 end) end))) ≡ some 0)
-    × (reply_bad form 9 (node cons 9 (more (text 1) (more (node cons 9 (more (bool true) (more (node nil 9 end) end))) end))) ≡ some 2)
+    × (reply_bad form 9 (node cons 9 (more (text 1) (more (node nil 4 end) end))) ≡ Some 0)
+    × (reply_bad form 9 (node cons 9 (more (text 1) (more (node cons 9 (more (bool true) (more (node nil 9 end) end))) end))) ≡ Some 2)
     -- a zip with a nil waits for its other masked argument
     × (step form 2 (node (apply 2) 4 (more (node (zip 3) 6 (more both end)) (more (bools []) (more waiting-list end)))) ≡ stay)
     -- a call that waits is passed over, one that can be sent is not
-    × (step form 2 (pair (future-of 1) second) ≡ go none (pair (future-of 1) (text 3)))
-    × (step form 2 (pair locate second) ≡ go (some (record { tool = 9; rows = []; result = 0 })) (pair (future-of 2) second))
+    × (step form 2 (pair (future-of 1) second) ≡ go None (pair (future-of 1) (text 3)))
+    × (step form 2 (pair locate second) ≡ go (Some (record { tool = 9; rows = []; result = 0 })) (pair (future-of 2) second))
 unfolding ◌∧ᵇ◌ within zeros number spell width read write reads writes padded calls_at rows_at record_bytes types names params elem_of pairs parts form_row form_of every ground_form ground_below ground last_form nonzero member distinct below plain_ok list_ok tuple_ok names_ok function_ok fields_ok same_numbers fresh ground_call type_ok bad_type_from bad_type find empty pick ◌⹁◌ place low rest head_of ty_of flat size code is n_of word_of head_from last_kind raw row_of within_one fits row_fault unless-bad shape_from shape blank kids trees top tree_of list tys lit_base first_is below_ok base_no is_base when_list when_tuple when_fun when_more same_side same_params given stop before later scope masked_ok zipped_ok rule_ok row_ok first_bad ◌∨ᵇ◌ veil hide swap hit assign put due settle value nth child kid become if_step isnil_step project_step send_step is_list ready any_nil kids_at lproject_step tie fix_step zip_cons zip_step apply_step let_step contract nowhere everywhere first unless behind unready apply_looks looks or_else wrap tail_goes head_goes visit step earlier raw_entry head_numbers record_of types_in entries_in rows_in entry_of state_of first_not nothing is_whole head_sound unused space_sound types_sound shape_sound term_sound rises entry_sound calls_sound listed future_listed futures_sound program_sound sound require refuse refuse_shape leaves file_types file_rows file_tree no_future program_verdict load_verdict loaded_state load send_meets need unmet stepped sent try_out try letter_of again ended onward runs lent ran_out rejected run reply_rows reply_tree reply_head_ok reply_kind reply_bad answer_verdict reply_verdict without replied_state replied_out reply file_numbers file_of sheet reply_of lows
 traps = (refl, refl, refl, refl, refl, refl, refl, refl, refl)

@@ -1,4 +1,5 @@
 -- Load, run and reply; histories.
+pub mod Chain
 pub mod InOrder
 pub mod Refusals
 pub mod Running

@@ -1,14 +1,23 @@
--- Document 01's number and place for each answer and refusal. Assumes nothing.
+-- Each answer and refusal in the numbers that C gets: its number, its place, the number sent, the steps made.
 use Rattle.std.specs.Prelude.{ℕ, Bool, true, false}
 use Rattle.meaning.specs.declared.Fault.{Fault}
 use Rattle.meaning.specs.declared.Refusal.{Refusal}
 use Rattle.meaning.specs.declared.Refusal.TheVariants.{Length, Size, Mark, Version, Count, TypeRow, Row, Future, Typing, Unsound, Header, NotOpen, ReplyRow, ReplyKind, ReplyTyping, ReplyRoom}
-use Rattle.meaning.specs.declared.Verdict.{Verdict}
-use Rattle.meaning.specs.declared.Verdict.TheVariants.{Accepted, Refused}
+use Rattle.std.specs.Prelude.{Result, Ok, Err, ⊤}
 use Rattle.meaning.specs.declared.Answer.{Answer}
 use Rattle.meaning.specs.declared.Answer.TheVariants.{Value, Waiting, Sent, Held, Budget, Room, Numbers}
-use Rattle.meaning.specs.declared.Run.{Run}
-use Rattle.meaning.specs.declared.Run.TheVariants.{Ran, Rejected}
+use Rattle.meaning.specs.declared.Ran.{Ran}
+
+-- what load and reply answer: nothing, or why they refuse
+abbrev pub Verdict : Type 0
+Verdict = Result ⊤ Refusal
+
+-- what run answers: how it ended and the steps made, or why it refuses
+abbrev pub Run : Type 0
+Run = Result Ran Refusal
+
+abbrev pub ended_by : Answer → ℕ → Run
+ended_by a n = Ok (record { answer = a; steps = n })
 
 -- which number a shape fault of a program has, and of a reply
 abbrev pub row_number : Fault → ℕ
@@ -35,7 +44,7 @@ refusal_number (ReplyKind i) = 14
 refusal_number (ReplyTyping i) = 15
 refusal_number ReplyRoom = 16
 
--- "place (0 where none is named)"
+-- the row that it names, 0 where it names none
 abbrev pub refusal_place : Refusal → ℕ
 refusal_place Length = 0
 refusal_place Size = 0
@@ -54,14 +63,14 @@ refusal_place (ReplyKind i) = i
 refusal_place (ReplyTyping i) = i
 refusal_place ReplyRoom = 0
 
--- "An accepted load or reply answers 0, place 0"
+-- an accepted load or reply answers 0, place 0
 abbrev pub verdict_number : Verdict → ℕ
-verdict_number Accepted = 0
-verdict_number (Refused r) = refusal_number r
+verdict_number (Ok tt) = 0
+verdict_number (Err r) = refusal_number r
 
 abbrev pub verdict_place : Verdict → ℕ
-verdict_place Accepted = 0
-verdict_place (Refused r) = refusal_place r
+verdict_place (Ok tt) = 0
+verdict_place (Err r) = refusal_place r
 
 abbrev pub answer_number : Answer → ℕ
 answer_number Value = 0
@@ -72,7 +81,7 @@ answer_number Budget = 4
 answer_number Room = 5
 answer_number Numbers = 6
 
--- "sent number or 0"
+-- the number of the call that was sent, 0 where none was
 abbrev pub sent_number : Answer → ℕ
 sent_number Value = 0
 sent_number Waiting = 0
@@ -82,7 +91,7 @@ sent_number Budget = 0
 sent_number Room = 0
 sent_number Numbers = 0
 
--- "Run .. gives answer, sent number or 0, and steps made"; a refused run is a case of its own, with the refusal's number and place
+-- what run answers: answer, number sent and steps made; a refused run is a case of its own, with the refusal's number and place
 pub record Figures : Type 0 where
   pub refused : Bool
   pub number : ℕ
@@ -91,5 +100,5 @@ pub record Figures : Type 0 where
   pub steps : ℕ
 
 abbrev pub run_figures : Run → Figures
-run_figures (Ran a n) = record { refused = false; number = answer_number a; place = 0; sent = sent_number a; steps = n }
-run_figures (Rejected r) = record { refused = true; number = refusal_number r; place = refusal_place r; sent = 0; steps = 0 }
+run_figures (Ok r) = record { refused = false; number = answer_number r.answer; place = 0; sent = sent_number r.answer; steps = r.steps }
+run_figures (Err r) = record { refused = true; number = refusal_number r; place = refusal_place r; sent = 0; steps = 0 }

@@ -54,7 +54,7 @@ writes l (r ∷ rs) = write l r ++ writes l rs
 unfoldable pub padded : ℕ → List ℕ → List ℕ
 padded n s = s ++ replicate (n - length s) 0
 
--- document 01, "Bytes": the mark is three bytes
+-- the mark is three bytes
 -- program file: mark, version, a zero byte, type count, row count
 abbrev pub file_head : Layout
 file_head = 1 ∷ 1 ∷ 1 ∷ 2 ∷ 1 ∷ 2 ∷ 2 ∷ []

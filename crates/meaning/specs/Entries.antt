@@ -1,7 +1,7 @@
 -- Load, run and reply as total functions: from all bytes lent and all numbers passed to all bytes after and all numbers returned;
 -- and histories of calls. Assumes nothing.
 use Rattle.std.specs.Prelude.{ℕ, zero, suc, ◌+◌, ◌*◌, ◌≤◌, ◌≡◌, Bool, true, false, cond, not, List, [], ◌∷◌, ◌++◌, map, eqb, leb, ltb, length, take, drop, get_or}
-use Rattle.std.proofs.Math.Option.{Option, none, some}
+use Rattle.std.specs.Prelude.{Option, None, Some}
 use Rattle.meaning.specs.Bytes.{◌∧ᵇ◌, within, width, read, write, reads, writes, padded, file_head, type_row, term_row, reply_head, call_head, Limits, record_bytes}
 use Rattle.meaning.specs.Types.{Form, form_of, bad_type, same_numbers, empty, member}
 use Rattle.meaning.specs.Terms.{Tree, ty_of, size, kind_no, raw, row_of, shape, tree_of}
@@ -9,34 +9,33 @@ use Rattle.meaning.specs.Typing.{stop, first_bad}
 use Rattle.meaning.specs.Steps.{Call, Out, stay, go, value, step, settle}
 use Rattle.meaning.specs.Records.{State, Entry, version, record_of, state_of, sound, listed, first_not}
 use Rattle.meaning.specs.declared.Fault.{Fault}
-use Rattle.meaning.specs.declared.Shape.{Shape}
-use Rattle.meaning.specs.declared.Shape.TheVariants.{Whole, Bad}
+use Rattle.meaning.specs.Terms.{Shape}
 use Rattle.meaning.specs.declared.Refusal.{Refusal}
 use Rattle.meaning.specs.declared.Refusal.TheVariants.{Length, Size, Mark, Version, Count, TypeRow, Row, Future, Typing, Unsound, Header, NotOpen, ReplyRow, ReplyKind, ReplyTyping, ReplyRoom}
-use Rattle.meaning.specs.declared.Verdict.{Verdict}
-use Rattle.meaning.specs.declared.Verdict.TheVariants.{Accepted, Refused}
+use Rattle.meaning.specs.Answers.{Verdict}
+use Rattle.std.specs.Prelude.{Ok, Err}
 use Rattle.meaning.specs.declared.Answer.{Answer}
 use Rattle.meaning.specs.declared.Answer.TheVariants.{Value, Waiting, Sent, Held, Budget, Room, Numbers}
-use Rattle.meaning.specs.declared.Run.{Run}
-use Rattle.meaning.specs.declared.Run.TheVariants.{Ran, Rejected}
+use Rattle.meaning.specs.Answers.{Run}
+use Rattle.meaning.specs.Answers.{ended_by}
 
 -- refused unless a test holds; refused at the place found; or what follows
 unfoldable pub require : Bool → Refusal → Verdict → Verdict
 require true r v = v
-require false r v = Refused r
+require false r v = Err r
 
 unfoldable pub refuse : Option ℕ → (ℕ → Refusal) → Verdict → Verdict
-refuse none r v = v
-refuse (some i) r v = Refused (r i)
+refuse None r v = v
+refuse (Some i) r v = Err (r i)
 
 unfoldable pub refuse_shape : Shape → (Fault → ℕ → Refusal) → Verdict → Verdict
-refuse_shape Whole r v = v
-refuse_shape (Bad f i) r v = Refused (r f i)
+refuse_shape (Ok tt) r v = v
+refuse_shape (Err (f, i)) r v = Err (r f i)
 
 -- what an accepting call leaves; "Refusals .. change no byte"
 unfoldable pub leaves : Verdict → List ℕ → List ℕ → List ℕ
-leaves Accepted new old = new
-leaves (Refused r) new old = old
+leaves (Ok tt) new old = new
+leaves (Err r) new old = old
 
 -- Load -----------------------------------------------------------------------------------------------------------
 
@@ -75,7 +74,7 @@ program_verdict file =
     refuse (bad_type (file_edition file) (file_types file)) TypeRow
     (refuse_shape (shape (file_edition file) (file_type_count file) (file_rows file)) Row
     (refuse (first_not no_future (file_rows file)) Future
-    (refuse (first_bad (form_of (file_types file)) empty (file_tree file)) Typing Accepted)))
+    (refuse (first_bad (form_of (file_types file)) empty (file_tree file)) Typing (Ok tt))))
 
 -- "Load: 1, 2 (under 10), 3, 4, 5, 2, 6, 7, 8, 9"
 unfoldable pub load_verdict : Limits → List ℕ → ℕ → Verdict
@@ -99,9 +98,9 @@ pub record LegalFile (m : Limits) (file : List ℕ) : Type 0 where
   pub rows-some : 1 ≤ file_row_count file
   pub rows-many : file_row_count file ≤ m.program_rows
   pub size : length file ≡ width file_head + width type_row * file_type_count file + width term_row * file_row_count file
-  pub types-good : bad_type (file_edition file) (file_types file) ≡ none
-  pub one-tree : shape (file_edition file) (file_type_count file) (file_rows file) ≡ Whole
-  pub no-future : first_not no_future (file_rows file) ≡ none
+  pub types-good : bad_type (file_edition file) (file_types file) ≡ None
+  pub one-tree : shape (file_edition file) (file_type_count file) (file_rows file) ≡ Ok tt
+  pub no-future : first_not no_future (file_rows file) ≡ None
 
 -- "An accepted load writes a fresh record: the file's types and rows, next number 1, no open call, row 0's type as program type"
 unfoldable pub loaded_state : List ℕ → State
@@ -120,7 +119,7 @@ load m file kept =
 unfoldable pub send_meets : Limits → State → Option Answer
 send_meets m s =
     cond (ltb (length s.calls) m.calls)
-    (cond (leb s.next m.last_number) none (some Numbers)) (some Held)
+    (cond (leb s.next m.last_number) None (Some Numbers)) (Some Held)
 
 -- before a step: an answer that ends the run, or the state behind the step and the call that it sends
 pub data Try : Type 0 where
@@ -132,8 +131,8 @@ need true a t = t
 need false a t = halt a
 
 unfoldable pub unmet : Option Answer → Try → Try
-unmet none t = t
-unmet (some a) t = halt a
+unmet None t = t
+unmet (Some a) t = halt a
 
 unfoldable pub stepped : State → Tree → State
 stepped s u = record { types = s.types; tree = u; calls = s.calls; next = s.next; program = s.program }
@@ -151,22 +150,22 @@ sent s c u =
 
 -- the state behind n steps, where there are so many; no limit is looked at
 unfoldable pub on_step : State → Out → Option State
-on_step s stay = none
-on_step s (go none u) = some (stepped s u)
-on_step s (go (some c) u) = some (sent s c u)
+on_step s stay = None
+on_step s (go None u) = Some (stepped s u)
+on_step s (go (Some c) u) = Some (sent s c u)
 
 unfoldable pub next_state : State → Option State
 next_state s = on_step s (step (form_of s.types) s.next s.tree)
 
 unfoldable pub after_steps : ℕ → State → Option State
-after_steps zero s = some s
-after_steps (suc n) s = elim (next_state s) [ none ↦ none | some u ↦ after_steps n u ]
+after_steps zero s = Some s
+after_steps (suc n) s = elim (next_state s) [ None ↦ None | Some u ↦ after_steps n u ]
 
 -- "Before each step, in this order": VALUE, WAITING, HELD, NUMBERS, ROOM, BUDGET
 unfoldable pub try_out : Limits → State → Out → Try
 try_out m s stay = halt Waiting
-try_out m s (go none u) = need (leb (size u) m.rows) Room (pass none (stepped s u))
-try_out m s (go (some c) u) = unmet (send_meets m s) (need (leb (size u) m.rows) Room (pass (some c) (sent s c u)))
+try_out m s (go None u) = need (leb (size u) m.rows) Room (pass None (stepped s u))
+try_out m s (go (Some c) u) = unmet (send_meets m s) (need (leb (size u) m.rows) Room (pass (Some c) (sent s c u)))
 
 unfoldable pub try : Limits → State → Try
 try m s = cond (value s.tree) (halt Value) (try_out m s (step (form_of s.types) s.next s.tree))
@@ -178,7 +177,7 @@ pub record Ended : Type 0 where
   pub state : State
   pub letter : List ℕ
 
--- document 01, "Sent call"
+-- a sent call: its number, tool, row count and type, then the rows of its arguments
 unfoldable pub letter_of : ℕ → Call → List ℕ
 letter_of k c = write call_head (k ∷ c.tool ∷ length c.rows ∷ c.result ∷ []) ++ writes term_row (map raw c.rows)
 
@@ -193,8 +192,8 @@ ended s (pass c u) = record { answer = Budget; made = 0; state = s; letter = [] 
 -- "A send counts as a step and ends the run with 2 SENT"
 unfoldable pub onward : State → Try → (State → Ended) → Ended
 onward s (halt a) k = record { answer = a; made = 0; state = s; letter = [] }
-onward s (pass (some c) u) k = record { answer = Sent s.next; made = 1; state = u; letter = letter_of s.next c }
-onward s (pass none u) k = again (k u)
+onward s (pass (Some c) u) k = record { answer = Sent s.next; made = 1; state = u; letter = letter_of s.next c }
+onward s (pass None u) k = again (k u)
 
 unfoldable pub runs : Limits → ℕ → State → Ended
 runs m zero s = ended s (try m s)
@@ -210,10 +209,10 @@ lent m kept work = eqb (length kept) (record_bytes m) ∧ᵇ eqb (length work) m
 
 -- "The work buffer then holds the call and zeros; after other answers .. only zeros"
 unfoldable pub ran_out : Limits → Ended → RunOut
-ran_out m e = record { answer = Ran e.answer e.made; record' = record_of m e.state; work' = padded m.work_bytes e.letter }
+ran_out m e = record { answer = ended_by e.answer e.made; record' = record_of m e.state; work' = padded m.work_bytes e.letter }
 
 unfoldable pub rejected : Refusal → List ℕ → List ℕ → RunOut
-rejected r kept work = record { answer = Rejected r; record' = kept; work' = work }
+rejected r kept work = record { answer = Err r; record' = kept; work' = work }
 
 -- "Run: 1, 10"
 unfoldable pub run : Limits → List ℕ → List ℕ → ℕ → RunOut
@@ -244,7 +243,7 @@ reply_rows reply = reads term_row (reply_count reply) (drop (width reply_head) r
 unfoldable pub reply_tree : List ℕ → Tree
 reply_tree reply = tree_of (map row_of (reply_rows reply))
 
--- document 01, "Reply: number u32, row count u16 (1 to 256), two zeros, rows"
+-- a reply: the call's number (four bytes), its row count (two; at least 1, at most the board's), two zeros, the rows
 unfoldable pub reply_head_ok : Limits → List ℕ → Bool
 reply_head_ok m reply =
     leb (width reply_head) (length reply)
@@ -255,7 +254,7 @@ reply_head_ok m reply =
 -- "a reply [is of legal form] if it meets neither 11 nor 13"
 pub record LegalReply (m : Limits) (s : State) (reply : List ℕ) : Type 0 where
   pub header : reply_head_ok m reply ≡ true
-  pub one-tree : shape version (length s.types) (reply_rows reply) ≡ Whole
+  pub one-tree : shape version (length s.types) (reply_rows reply) ≡ Ok tt
 
 -- refusal 14: "not of kind 1 to 4, 12, 13, 16"
 abbrev pub reply_kinds : List ℕ
@@ -269,12 +268,12 @@ unfoldable pub reply_bad : (ℕ → Form) → ℕ → Tree → Option ℕ
 reply_bad form ty v = stop (eqb (ty_of v) ty) (first_bad form empty v)
 
 unfoldable pub answer_verdict : Limits → State → List ℕ → Option ℕ → Verdict
-answer_verdict m s reply none = Refused NotOpen
-answer_verdict m s reply (some ty) =
+answer_verdict m s reply None = Err NotOpen
+answer_verdict m s reply (Some ty) =
     refuse_shape (shape version (length s.types) (reply_rows reply)) ReplyRow
     (refuse (first_not reply_kind (reply_rows reply)) ReplyKind
     (refuse (reply_bad (form_of s.types) ty (reply_tree reply)) ReplyTyping
-    (require (leb (size (settle (reply_number reply) (reply_tree reply) s.tree)) m.rows) ReplyRoom Accepted)))
+    (require (leb (size (settle (reply_number reply) (reply_tree reply) s.tree)) m.rows) ReplyRoom (Ok tt))))
 
 -- "Reply: 1, 10, then 11 to 16"
 unfoldable pub reply_verdict : Limits → State → List ℕ → Verdict
@@ -304,8 +303,8 @@ unfoldable pub reply : Limits → List ℕ → List ℕ → List ℕ → Replied
 reply m kept work answer =
     cond (lent m kept work)
     (cond (sound m kept) (replied_out m (state_of m kept) answer kept work (reply_verdict m (state_of m kept) answer))
-    (replied_out m (state_of m kept) answer kept work (Refused Unsound)))
-    (replied_out m (state_of m kept) answer kept work (Refused Length))
+    (replied_out m (state_of m kept) answer kept work (Err Unsound)))
+    (replied_out m (state_of m kept) answer kept work (Err Length))
 
 -- What the entries' contracts say ----------------------------------------------------------------------------------
 
@@ -340,15 +339,19 @@ unfoldable pub after : Limits → List ℕ → List Move → List ℕ
 after m b [] = b
 after m b (v ∷ vs) = after m (after_move m b v) vs
 
+-- the number that an answer says was sent
+abbrev pub number_sent : Answer → List ℕ
+number_sent (Sent k) = k ∷ []
+number_sent Value = []
+number_sent Waiting = []
+number_sent Held = []
+number_sent Budget = []
+number_sent Room = []
+number_sent Numbers = []
+
 unfoldable pub sent_in : Run → List ℕ
-sent_in (Ran (Sent k) n) = k ∷ []
-sent_in (Ran Value n) = []
-sent_in (Ran Waiting n) = []
-sent_in (Ran Held n) = []
-sent_in (Ran Budget n) = []
-sent_in (Ran Room n) = []
-sent_in (Ran Numbers n) = []
-sent_in (Rejected r) = []
+sent_in (Ok r) = number_sent r.answer
+sent_in (Err x) = []
 
 unfoldable pub sent_by : Limits → List ℕ → Move → List ℕ
 sent_by m b (running budget work) = sent_in (run m b work budget).answer

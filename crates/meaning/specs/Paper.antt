@@ -4,7 +4,7 @@
 -- a let's name) is in the types that rows state. House: each row states its type; "names at an application aren't repeated" (11); "a
 -- future has the type it states" (13's ground type is asked of the open list); a written function stands below fix (20). Assumes nothing.
 use Rattle.std.specs.Prelude.{ℕ, zero, suc, ◌≤◌, ◌≡◌, Bool, true, false, cond, List, [], ◌∷◌, eqb}
-use Rattle.std.proofs.Math.Option.{Option, none, some}
+use Rattle.std.specs.Prelude.{Option, None, Some}
 use Rattle.meaning.specs.Bytes.{◌∧ᵇ◌}
 use Rattle.meaning.specs.Types.{Base, Str, File, Truth, Side, ntv, frn, Param, Form, absent, base, f_list, f_tuple, f_fun, low, rest}
 use Rattle.meaning.specs.Terms.{str, file, truth, Head, lit, var, lambda, foreign, apply, future, ite, fix, nil, cons, isnil, zip, tuple, project, lproject, bind, arity, Tree, Forest, node, end, more}
@@ -69,8 +69,8 @@ type_of form t = type_below form (suc t) t
 
 -- the type of a name; "The innermost binder wins"
 unfoldable pub named : Args → ℕ → Option Ty
-named no_arg x = none
-named (arg y T Γ) x = cond (eqb x y) (some T) (named Γ x)
+named no_arg x = None
+named (arg y T Γ) x = cond (eqb x y) (Some T) (named Γ x)
 
 -- names bound inside those of Γ
 infixl 20 ◌⊹◌
@@ -84,9 +84,9 @@ arg_types (arg x T ps) = elem T (arg_types ps)
 
 -- the i-th, counted from 1
 unfoldable pub elem_at : ℕ → Elems → Option Ty
-elem_at i no_elem = none
-elem_at zero (elem T Ts) = none
-elem_at (suc zero) (elem T Ts) = some T
+elem_at i no_elem = None
+elem_at zero (elem T Ts) = None
+elem_at (suc zero) (elem T Ts) = Some T
 elem_at (suc (suc i)) (elem T Ts) = elem_at (suc i) Ts
 
 -- "mask within the child's arguments"; "List around each masked argument", the names as they are
@@ -117,7 +117,7 @@ module _ (stands : ℕ → Ty) where
       -- 16, 17
       r_truth : {Γ : Args} {b : Bool} → ByRule Γ (lit (truth b)) end (t_base Truth)
       -- 8
-      r_var : {Γ : Args} {x : ℕ} {T : Ty} → named Γ x ≡ some T → ByRule Γ (var x) end T
+      r_var : {Γ : Args} {x : ℕ} {T : Ty} → named Γ x ≡ Some T → ByRule Γ (var x) end T
       -- 9
       r_native : {Γ ps : Args} {b : Tree} {T : Ty}
           → Has (Γ ⊹ ps) b T
@@ -165,12 +165,12 @@ module _ (stands : ℕ → Ty) where
       -- 31
       r_project : {Γ : Args} {i : ℕ} {c : Tree} {Ts : Elems} {T : Ty}
           → Has Γ c (t_tuple Ts)
-          → elem_at i Ts ≡ some T
+          → elem_at i Ts ≡ Some T
           → ByRule Γ (project i) (more c end) T
       -- 32
       r_lproject : {Γ : Args} {i : ℕ} {c : Tree} {Ts : Elems} {T : Ty}
           → Has Γ c (t_list (t_tuple Ts))
-          → elem_at i Ts ≡ some T
+          → elem_at i Ts ≡ Some T
           → ByRule Γ (lproject i) (more c end) (t_list T)
       -- 34
       r_let : {Γ : Args} {x : ℕ} {a b : Tree} {U T : Ty}

@@ -1,12 +1,12 @@
 -- The run record: the state that it holds, its bytes, and when it is sound. Assumes nothing.
 use Rattle.std.specs.Prelude.{ℕ, suc, ◌+◌, ◌*◌, ◌-◌, Bool, true, false, cond, List, [], ◌∷◌, ◌++◌, map, eqb, leb, ltb, length, take, drop, get_or}
-use Rattle.std.proofs.Math.Option.{Option, none, some}
+use Rattle.std.specs.Prelude.{Option, None, Some}
 use Rattle.meaning.specs.Bytes.{◌∧ᵇ◌, within, zeros, Layout, width, read, write, reads, writes, padded, type_row, term_row, record_head, entry_row, Limits, types_at, calls_at, rows_at}
 use Rattle.meaning.specs.Types.{Form, form_of, ground, bad_type, same_numbers, empty}
 use Rattle.meaning.specs.Terms.{Tree, ty_of, flat, size, kind_no, type_no, word_no, raw, row_of, shape, tree_of}
 use Rattle.meaning.specs.Typing.{given, first_bad}
-use Rattle.meaning.specs.declared.Shape.{Shape}
-use Rattle.meaning.specs.declared.Shape.TheVariants.{Whole, Bad}
+use Rattle.meaning.specs.Terms.{Shape}
+use Rattle.std.specs.Prelude.{Ok, Err}
 
 -- a call in the open list: its number, and the type of its reply
 pub record Entry : Type 0 where
@@ -37,7 +37,7 @@ raw_entry e = e.number ∷ e.type ∷ 0 ∷ []
 unfoldable pub head_numbers : State → List ℕ
 head_numbers s = record_mark ++ (length s.types ∷ size s.tree ∷ length s.calls ∷ s.next ∷ s.program ∷ 0 ∷ [])
 
--- document 01, "Run record": "Unused space is zero"
+-- a run record: unused space is zero
 unfoldable pub record_of : Limits → State → List ℕ
 record_of m s =
     write record_head (head_numbers s)
@@ -95,16 +95,16 @@ state_of m b =
 
 -- the first for which a test fails
 unfoldable pub first_not : {A : Type 0} → (A → Bool) → List A → Option ℕ
-first_not p [] = none
-first_not p (x ∷ xs) = cond (p x) (elim (first_not p xs) [ none ↦ none | some i ↦ some (suc i) ]) (some 0)
+first_not p [] = None
+first_not p (x ∷ xs) = cond (p x) (elim (first_not p xs) [ None ↦ None | Some i ↦ Some (suc i) ]) (Some 0)
 
 unfoldable pub nothing : Option ℕ → Bool
-nothing none = true
-nothing (some i) = false
+nothing None = true
+nothing (Some i) = false
 
 unfoldable pub is_whole : Shape → Bool
-is_whole Whole = true
-is_whole (Bad f i) = false
+is_whole (Ok tt) = true
+is_whole (Err (f, i)) = false
 
 -- the header's fixed numbers and its counts, within the board's limits
 unfoldable pub head_sound : Limits → List ℕ → Bool
@@ -150,8 +150,8 @@ calls_sound m b = rises 0 (state_of m b).calls ∧ᵇ nothing (first_not (entry_
 
 -- the type under which a number is open
 unfoldable pub listed : List Entry → ℕ → Option ℕ
-listed [] k = none
-listed (e ∷ es) k = cond (eqb e.number k) (some e.type) (listed es k)
+listed [] k = None
+listed (e ∷ es) k = cond (eqb e.number k) (Some e.type) (listed es k)
 
 -- "each future in the term is listed with its type"
 unfoldable pub future_listed : List Entry → List ℕ → Bool

@@ -1,6 +1,6 @@
 -- Steps: names replaced at once, futures settled, values, what reduces at a row, where the rules look below it. Assumes nothing.
 use Rattle.std.specs.Prelude.{ℕ, zero, suc, Bool, true, false, cond, not, List, [], ◌∷◌, eqb}
-use Rattle.std.proofs.Math.Option.{Option, none, some}
+use Rattle.std.specs.Prelude.{Option, None, Some}
 use Rattle.meaning.specs.Bytes.{◌∧ᵇ◌}
 use Rattle.meaning.specs.Types.{Param, Form, params, find, elem_of, low, rest, member}
 use Rattle.meaning.specs.Terms.{truth, Head, lit, var, lambda, foreign, apply, future, ite, fix, nil, cons, isnil, zip, tuple, project, lproject, bind, arity, code, n_of, word_of, Tree, Forest, node, end, more, head_of, ty_of, is, Row, flats}
@@ -18,26 +18,26 @@ abbrev pub Sub : Type 0
 Sub = ℕ → Option Tree
 
 unfoldable pub veil : Option ℕ → Option Tree → Option Tree
-veil none o = o
-veil (some t) o = none
+veil None o = o
+veil (Some t) o = None
 
 -- "A hidden name stays"
 unfoldable pub hide : List Param → Sub → Sub
 hide ps σ x = veil (find ps x) (σ x)
 
 unfoldable pub swap : Option Tree → Tree → Tree
-swap none t = t
-swap (some v) t = v
+swap None t = t
+swap (Some v) t = v
 
 -- what is put at a row: at a variable, what is put for its name
 unfoldable pub hit : Sub → Head → Option Tree
-hit σ h = cond (eqb (code h) 5) (σ (word_of h)) none
+hit σ h = cond (eqb (code h) 5) (σ (word_of h)) None
 
 -- the i-th argument for the i-th name
 unfoldable pub assign : {n : ℕ} → List Param → Forest n → Sub
-assign [] f x = none
-assign (p ∷ ps) end x = none
-assign (p ∷ ps) (more t f) x = cond (eqb x p.name) (some t) (assign ps f x)
+assign [] f x = None
+assign (p ∷ ps) end x = None
+assign (p ∷ ps) (more t f) x = cond (eqb x p.name) (Some t) (assign ps f x)
 
 -- "put the arguments or bound term, unevaluated, for the free names at once"
 module _ (form : ℕ → Form) where
@@ -51,7 +51,7 @@ module _ (form : ℕ → Form) where
 
 -- "An accepted reply replaces every future of its number by its rows"
 unfoldable pub due : ℕ → Tree → Head → Option Tree
-due k v h = cond (eqb (code h) 9 ∧ᵇ eqb (word_of h) k) (some v) none
+due k v h = cond (eqb (code h) 9 ∧ᵇ eqb (word_of h) k) (Some v) None
 
 unfoldable mutual
   pub settle : ℕ → Tree → Tree → Tree
@@ -93,9 +93,9 @@ pub data Out : Type 0 where
 
 -- the i-th tree, counted from 1
 unfoldable pub nth : {n : ℕ} → ℕ → Forest n → Option Tree
-nth i end = none
-nth zero (more t f) = none
-nth (suc zero) (more t f) = some t
+nth i end = None
+nth zero (more t f) = None
+nth (suc zero) (more t f) = Some t
 nth (suc (suc i)) (more t f) = nth (suc i) f
 
 unfoldable pub child : ℕ → Tree → Option Tree
@@ -106,16 +106,16 @@ unfoldable pub kid : ℕ → Tree → Tree
 kid i t = swap (child i t) t
 
 unfoldable pub become : Option Tree → Out
-become none = stay
-become (some t) = go none t
+become None = stay
+become (Some t) = go None t
 
 -- "when the child is true or false"; the paper's 38, 39
 unfoldable pub if_step : Tree → Tree → Tree → Out
-if_step c a b = cond (is 3 c) (go none a) (cond (is 4 c) (go none b) stay)
+if_step c a b = cond (is 3 c) (go None a) (cond (is 4 c) (go None b) stay)
 
 -- "nil or cons", "elements unevaluated"; the paper's 41, 42
 unfoldable pub isnil_step : ℕ → Tree → Out
-isnil_step u c = cond (is 12 c) (go none (node (lit (truth true)) u end)) (cond (is 13 c) (go none (node (lit (truth false)) u end)) stay)
+isnil_step u c = cond (is 12 c) (go None (node (lit (truth true)) u end)) (cond (is 13 c) (go None (node (lit (truth false)) u end)) stay)
 
 -- "a tuple"; the paper's 45
 unfoldable pub project_step : ℕ → Tree → Out
@@ -125,7 +125,7 @@ project_step i c = cond (is 16 c) (become (child i c)) stay
 -- the paper's 37
 unfoldable pub send_step : {n : ℕ} → ℕ → ℕ → Tree → Forest n → Out
 send_step k u c args =
-    cond (values args) (go (some (record { tool = word_of (head_of c); rows = flats args; result = u })) (node (future k) u end)) stay
+    cond (values args) (go (Some (record { tool = word_of (head_of c); rows = flats args; result = u })) (node (future k) u end)) stay
 
 -- over the masked arguments of a zip: all are nil or cons; one is nil; the heads; the tails
 unfoldable pub is_list : Tree → Bool
@@ -147,15 +147,15 @@ module _ (form : ℕ → Form) where
   -- "List project of a cons gives a cons of the projected head and the list-projected tail"; the paper's 46, 47
   unfoldable pub lproject_step : ℕ → ℕ → Tree → Out
   lproject_step i u c =
-      cond (is 12 c) (go none (node nil u end))
+      cond (is 12 c) (go None (node nil u end))
       (cond (is 13 c)
-      (go none (node cons u (more (node (project i) (elem_of (form u)) (more (kid 1 c) end)) (more (node (lproject i) u (more (kid 2 c) end)) end))))
+      (go None (node cons u (more (node (project i) (elem_of (form u)) (more (kid 1 c) end)) (more (node (lproject i) u (more (kid 2 c) end)) end))))
       stay)
 
   -- "Fix of a function: the function of the remaining arguments, the first name replaced in its body by the fix term"; the paper's 40
   unfoldable pub tie : ℕ → Tree → List Param → Out
   tie u c [] = stay
-  tie u c (p ∷ ps) = go none (node lambda u (more (put form (assign (p ∷ []) (more (node fix u (more c end)) end)) (kid 1 c)) end))
+  tie u c (p ∷ ps) = go None (node lambda u (more (put form (assign (p ∷ []) (more (node fix u (more c end)) end)) (kid 1 c)) end))
 
   unfoldable pub fix_step : ℕ → Tree → Out
   fix_step u c = cond (is 6 c) (tie u c (params (form (ty_of c)))) stay
@@ -167,18 +167,18 @@ module _ (form : ℕ → Form) where
       node cons u (more (node (apply n) (elem_of (form u)) (more (kid 1 c) (kids_at 1 m args))) (more (node (apply n) u (more c (kids_at 2 m args))) end))
 
   unfoldable pub zip_step : {n : ℕ} → ℕ → ℕ → Tree → Forest n → Out
-  zip_step u m c args = cond (ready m args) (cond (any_nil m args) (go none (node nil u end)) (go none (zip_cons u m c args))) stay
+  zip_step u m c args = cond (ready m args) (cond (any_nil m args) (go None (node nil u end)) (go None (zip_cons u m c args))) stay
 
   -- the paper's 35, 36 (all arguments at once), 37, 44
   unfoldable pub apply_step : {n : ℕ} → ℕ → ℕ → Tree → Forest n → Out
   apply_step k u c args =
-      cond (is 6 c) (go none (put form (assign (params (form (ty_of c))) args) (kid 1 c)))
+      cond (is 6 c) (go None (put form (assign (params (form (ty_of c))) args) (kid 1 c)))
       (cond (is 7 c) (send_step k u c args)
       (cond (is 15 c) (zip_step u (n_of (head_of c)) c args) stay))
 
   -- the paper's 48
   unfoldable pub let_step : ℕ → Tree → Tree → Out
-  let_step x a b = go none (put form (assign (record { name = x; type = ty_of a } ∷ []) (more a end)) b)
+  let_step x a b = go None (put form (assign (record { name = x; type = ty_of a } ∷ []) (more a end)) b)
 
   -- what reduces at a row of type u, where k is the next number. "Nothing else steps"
   unfoldable pub contract : ℕ → (h : Head) → ℕ → Forest (arity h) → Out
@@ -305,14 +305,14 @@ pub record Awaited : Type 0 where
   pub type : ℕ
 
 unfoldable pub earlier : Option Awaited → Option Awaited → Option Awaited
-earlier none o = o
-earlier (some e) o = some e
+earlier None o = o
+earlier (Some e) o = Some e
 
 -- the first future that stands where the rules look
 unfoldable mutual
   pub awaited : Tree → Option Awaited
-  awaited (node h u f) = cond (eqb (code h) 9) (some (record { number = word_of h; type = u })) (awaited_in (looks h f) f)
+  awaited (node h u f) = cond (eqb (code h) 9) (Some (record { number = word_of h; type = u })) (awaited_in (looks h f) f)
 
   pub awaited_in : {n : ℕ} → Places → Forest n → Option Awaited
-  awaited_in a end = none
-  awaited_in a (more t f) = earlier (cond (a 0) (awaited t) none) (awaited_in (λ i. a (suc i)) f)
+  awaited_in a end = None
+  awaited_in a (more t f) = earlier (cond (a 0) (awaited t) None) (awaited_in (λ i. a (suc i)) f)

@@ -1,11 +1,10 @@
 -- Terms: heads and trees, the kinds table, rows against trees, and the shape that refusals 7 and 13 test. Assumes nothing.
 use Rattle.std.specs.Prelude.{ℕ, zero, suc, ◌+◌, Bool, true, false, cond, List, [], ◌∷◌, ◌++◌, eqb, ltb, get_or, drop}
-use Rattle.std.proofs.Math.Option.{Option, none, some}
+use Rattle.std.specs.Prelude.{Option, None, Some}
 use Rattle.meaning.specs.Bytes.{◌∧ᵇ◌, within}
 use Rattle.meaning.specs.declared.Fault.{Fault}
 use Rattle.meaning.specs.declared.Fault.TheVariants.{Kind, Field, Number, Behind, Unfinished}
-use Rattle.meaning.specs.declared.Shape.{Shape}
-use Rattle.meaning.specs.declared.Shape.TheVariants.{Whole, Bad}
+use Rattle.std.specs.Prelude.{Result, Ok, Err, ⊤}
 
 pub data Lit : Type 0 where
   str file : ℕ → Lit
@@ -25,7 +24,7 @@ pub data Head : Type 0 where
   project lproject : ℕ → Head
   bind : ℕ → Head
 
--- document 01, the kinds table, column "children"
+-- how many children a row of this head has
 abbrev pub arity : Head → ℕ
 arity (lit l) = 0
 arity (var x) = 0
@@ -82,7 +81,7 @@ unfoldable mutual
 
 -- Kinds ----------------------------------------------------------------------------------------------------------
 
--- document 01, the kinds table, column "kind"
+-- the number of a head's kind in its row
 unfoldable pub code : Head → ℕ
 code (lit (str w)) = 1
 code (lit (file w)) = 2
@@ -231,7 +230,7 @@ last_kind edition = get_or (0 ∷ 19 ∷ []) edition 0
 
 -- Rows as numbers ------------------------------------------------------------------------------------------------
 
--- document 01, "Term row: kind u8, n u8, type u16, word u32"
+-- the fields of a term row: kind (one byte), n (one byte), type (two), word (four)
 abbrev pub kind_no : List ℕ → ℕ
 kind_no r = get_or r 0 0
 
@@ -262,17 +261,21 @@ unfoldable pub row_fault : ℕ → ℕ → List ℕ → Option Fault
 row_fault edition count r =
     cond (within 1 (last_kind edition) (kind_no r))
     (cond (fits (get_or kind_fields (kind_no r) none-used) r)
-    (cond (ltb (type_no r) count) none (some Number)) (some Field)) (some Kind)
+    (cond (ltb (type_no r) count) None (Some Number)) (Some Field)) (Some Kind)
+
+-- one whole tree, or the first fault and its row
+abbrev pub Shape : Type 0
+Shape = Result ⊤ (Fault × ℕ)
 
 unfoldable pub unless-bad : Option Fault → ℕ → Shape → Shape
-unless-bad none i s = s
-unless-bad (some f) i s = Bad f i
+unless-bad None i s = s
+unless-bad (Some f) i s = Err (f, i)
 
 -- "or after the tree's end; row count if the tree is unfinished": the rows from row i on, while `owed` trees are still to come
 unfoldable pub shape_from : ℕ → ℕ → List (List ℕ) → ℕ → ℕ → Shape
-shape_from edition count [] zero i = Whole
-shape_from edition count [] (suc owed) i = Bad Unfinished i
-shape_from edition count (r ∷ l) zero i = unless-bad (row_fault edition count r) i (Bad Behind i)
+shape_from edition count [] zero i = Ok tt
+shape_from edition count [] (suc owed) i = Err (Unfinished, i)
+shape_from edition count (r ∷ l) zero i = unless-bad (row_fault edition count r) i (Err (Behind, i))
 shape_from edition count (r ∷ l) (suc owed) i =
     unless-bad (row_fault edition count r) i (shape_from edition count l (owed + arity (row_of r).head) (suc i))
 

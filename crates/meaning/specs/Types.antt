@@ -1,6 +1,6 @@
 -- Types: what a type row says, which rows are bad (refusal 6), which types are ground, and what names mean. Assumes nothing.
 use Rattle.std.specs.Prelude.{ℕ, zero, suc, ◌+◌, ◌*◌, ◌/◌, ◌%◌, Bool, true, false, cond, not, List, [], ◌∷◌, ◌++◌, eqb, leb, ltb, length, take, drop, get_or}
-use Rattle.std.proofs.Math.Option.{Option, none, some}
+use Rattle.std.specs.Prelude.{Option, None, Some}
 use Rattle.meaning.specs.Bytes.{◌∧ᵇ◌, within, zeros}
 
 pub data Base : Type 0 where
@@ -48,7 +48,7 @@ elem_of (f_fun s ps r) = 0
 
 -- Type rows ------------------------------------------------------------------------------------------------------
 
--- document 01, "Type row": form, n, result, eight pairs (name, type), as the numbers that the layout reads
+-- a type row: form, n, result, eight pairs of a name and a type, as the numbers that the layout reads
 unfoldable pub pairs : List ℕ → List Param
 pairs [] = []
 pairs (x ∷ []) = []
@@ -176,8 +176,8 @@ type_ok edition old r = within 1 (last_form edition) (form_no r) ∧ᵇ fields_o
 
 -- refusal 6: "first bad type row", behind those that have passed
 unfoldable pub bad_type_from : ℕ → List (List ℕ) → List (List ℕ) → Option ℕ
-bad_type_from edition old [] = none
-bad_type_from edition old (r ∷ rs) = cond (type_ok edition old r) (bad_type_from edition (old ++ (r ∷ [])) rs) (some (length old))
+bad_type_from edition old [] = None
+bad_type_from edition old (r ∷ rs) = cond (type_ok edition old r) (bad_type_from edition (old ++ (r ∷ [])) rs) (Some (length old))
 
 unfoldable pub bad_type : ℕ → List (List ℕ) → Option ℕ
 bad_type edition rows = bad_type_from edition [] rows
@@ -186,19 +186,19 @@ bad_type edition rows = bad_type_from edition [] rows
 
 -- the type of a name among those bound at once
 unfoldable pub find : List Param → ℕ → Option ℕ
-find [] x = none
-find (p ∷ ps) x = cond (eqb x p.name) (some p.type) (find ps x)
+find [] x = None
+find (p ∷ ps) x = cond (eqb x p.name) (Some p.type) (find ps x)
 
 -- what each name means
 abbrev pub Ctx : Type 0
 Ctx = ℕ → Option ℕ
 
 unfoldable pub empty : Ctx
-empty x = none
+empty x = None
 
 unfoldable pub pick : Option ℕ → Option ℕ → Option ℕ
-pick none o = o
-pick (some t) o = some t
+pick None o = o
+pick (Some t) o = Some t
 
 -- "The innermost binder wins"
 infixl 20 ◌⹁◌
@@ -207,9 +207,9 @@ unfoldable pub ◌⹁◌ : Ctx → List Param → Ctx
 
 -- the i-th of a list, counted from 1
 unfoldable pub place : ℕ → List ℕ → Option ℕ
-place i [] = none
-place zero (t ∷ ts) = none
-place (suc zero) (t ∷ ts) = some t
+place i [] = None
+place zero (t ∷ ts) = None
+place (suc zero) (t ∷ ts) = Some t
 place (suc (suc i)) (t ∷ ts) = place (suc i) ts
 
 -- "mask .., bit 0 = first argument"

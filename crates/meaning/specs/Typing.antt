@@ -1,7 +1,7 @@
 -- Typing, row by row: the paper's rules 3 to 34 with the house rules, as a relation over rows and as a check that names the first
 -- row that fails. Assumes nothing.
 use Rattle.std.specs.Prelude.{ℕ, zero, suc, ◌+◌, ◌≡◌, Bool, true, false, cond, List, [], ◌∷◌, eqb}
-use Rattle.std.proofs.Math.Option.{Option, none, some}
+use Rattle.std.specs.Prelude.{Option, None, Some}
 use Rattle.meaning.specs.Bytes.{◌∧ᵇ◌}
 use Rattle.meaning.specs.Types.{Base, Str, File, Truth, Side, ntv, frn, Param, Form, absent, base, f_list, f_tuple, f_fun, params, types, Ctx, ◌⹁◌, place, low, rest, same_numbers}
 use Rattle.meaning.specs.Terms.{Lit, str, file, truth, Head, lit, var, lambda, foreign, apply, future, ite, fix, nil, cons, isnil, zip, tuple, project, lproject, bind, arity, code, Tree, Forest, node, end, more, ty_of, is, size}
@@ -86,22 +86,22 @@ same_params (p ∷ ps) [] = false
 same_params (p ∷ ps) (q ∷ qs) = eqb p.name q.name ∧ᵇ eqb p.type q.type ∧ᵇ same_params ps qs
 
 unfoldable pub given : Option ℕ → ℕ → Bool
-given none t = false
-given (some u) t = eqb u t
+given None t = false
+given (Some u) t = eqb u t
 
 -- The first of several findings ----------------------------------------------------------------------------------
 
 unfoldable pub stop : Bool → Option ℕ → Option ℕ
 stop true o = o
-stop false o = some 0
+stop false o = Some 0
 
 unfoldable pub before : Option ℕ → Option ℕ → Option ℕ
-before none o = o
-before (some i) o = some i
+before None o = o
+before (Some i) o = Some i
 
 unfoldable pub later : ℕ → Option ℕ → Option ℕ
-later n none = none
-later n (some i) = some (n + i)
+later n None = None
+later n (Some i) = Some (n + i)
 
 module _ (form : ℕ → Form) where
   -- Rules --------------------------------------------------------------------------------------------------------
@@ -118,11 +118,11 @@ module _ (form : ℕ → Form) where
   Zipped m (p ∷ ps) [] = ⊥
   Zipped m (p ∷ ps) (q ∷ qs) = (q.name ≡ p.name) × Masked (low m) p.type q.type × Zipped (rest m) ps qs
 
-  -- "A row fails if its own rule fails, given the types stated by its children and the binders around it": the rule of a row of
-  -- type ty over the types of its children; document 01, "Typing, row by row", a line a kind (Paper.antt has the paper's numbers)
+  -- A row fails if its own rule fails, given the types stated by its children and the binders around it: the rule of a row of
+  -- type ty over the types of its children, a line a kind (Paper.antt has the paper's numbers)
   unfoldable pub Rule : Ctx → (h : Head) → ℕ → Tys (arity h) → Type 0
   Rule Γ (lit l) ty ⟨⟩ = form ty ≡ base (lit_base l)
-  Rule Γ (var x) ty ⟨⟩ = Γ x ≡ some ty
+  Rule Γ (var x) ty ⟨⟩ = Γ x ≡ Some ty
   Rule Γ lambda ty (b ▹ ⟨⟩) = (ps : List Param) × (form ty ≡ f_fun ntv ps b)
   Rule Γ (foreign w) ty ⟨⟩ = (ps : List Param) × (r : ℕ) × (form ty ≡ f_fun frn ps r)
   Rule Γ (apply n) ty (c ▹ us) = (s : Side) × (ps : List Param) × (form c ≡ f_fun s ps ty) × (list us ≡ types ps)
@@ -137,9 +137,9 @@ module _ (form : ℕ → Form) where
       (s : Side) × (ps : List Param) × (r : ℕ) × (qs : List Param) × (u : ℕ)
       × (form c ≡ f_fun s ps r) × (form ty ≡ f_fun s qs u) × (form u ≡ f_list r) × Zipped m ps qs
   Rule Γ (tuple n) ty us = form ty ≡ f_tuple (list us)
-  Rule Γ (project i) ty (c ▹ ⟨⟩) = (ts : List ℕ) × (form c ≡ f_tuple ts) × (place i ts ≡ some ty)
+  Rule Γ (project i) ty (c ▹ ⟨⟩) = (ts : List ℕ) × (form c ≡ f_tuple ts) × (place i ts ≡ Some ty)
   Rule Γ (lproject i) ty (c ▹ ⟨⟩) =
-      (e : ℕ) × (ts : List ℕ) × (r : ℕ) × (form c ≡ f_list e) × (form e ≡ f_tuple ts) × (place i ts ≡ some r) × (form ty ≡ f_list r)
+      (e : ℕ) × (ts : List ℕ) × (r : ℕ) × (form c ≡ f_list e) × (form e ≡ f_tuple ts) × (place i ts ≡ Some r) × (form ty ≡ f_list r)
   Rule Γ (bind x) ty (a ▹ b ▹ ⟨⟩) = b ≡ ty
 
   -- "A native function binds its type's names in its body; let binds its name, with the bound term's type, in its body only":
@@ -214,5 +214,5 @@ module _ (form : ℕ → Form) where
     first_bad Γ (node h ty f) = stop (row_ok Γ h ty f) (later 1 (first_bads Γ (scope h ty (tys f)) f))
 
     pub first_bads : {n : ℕ} → Ctx → (ℕ → List Param) → Forest n → Option ℕ
-    first_bads Γ s end = none
+    first_bads Γ s end = None
     first_bads Γ s (more t f) = before (first_bad (Γ ⹁ s 0) t) (later (size t) (first_bads Γ (λ i. s (suc i)) f))

@@ -1,3 +1,4 @@
 pub mod Lists
 pub mod Listing
 pub mod Stored
+pub mod Rules

@@ -11,7 +11,7 @@ use Rattle.meaning.specs.Records.{Entry as Call}
 use Rattle.meaning.specs.Records.{entry_of, raw_entry}
 use Rattle.meaning.proofs.Bytes.Layouts.{length-spell, length-write, length-writes}
 use Rattle.layout.proofs.Laws.{three-runs}
-use Rattle.open.specs.declared.Entry.{Entry}
+use Rattle.open.specs.declared.entries.Entry.{Entry}
 use Rattle.open.specs.Open.{call}
 
 -- Reading --------------------------------------------------------------------------------------------------------

@@ -1,17 +1,14 @@
 -- The entries that an open list by value holds. Assumes nothing.
-use Rattle.std.specs.Prelude.{ℕ, ◌≡◌, List, map, length, take}
-use Rattle.std.proofs.Math.Option.{Option, none, some}
+use Rattle.std.specs.Prelude.{◌≡◌, List, map, length, take}
 use Rattle.meaning.specs.Records.{Entry as Call}
-use Rattle.open.specs.declared.Entry.{Entry}
-use Rattle.open.specs.declared.OpenList.{OpenList}
-use Rattle.open.specs.declared.Listed.{Listed}
-use Rattle.open.specs.declared.Listed.TheVariants.{Under, Nothing}
+use Rattle.open.specs.declared.entries.Entry.{Entry}
+use Rattle.open.specs.declared.entries.OpenList.{OpenList}
 
 -- a call under its number, with the type of its reply
 abbrev pub call : Entry → Call
 call e = record { number = e.number; type = e.ty }
 
--- document 01, "There are at most 64 open calls": the entries in use
+-- the entries in use: there are at most 64 open calls
 abbrev pub opened : OpenList → List Call
 opened o = map call (take o.count o.entries)
 
@@ -19,7 +16,3 @@ opened o = map call (take o.count o.entries)
 pub record Lists (o : OpenList) (es : List Call) : Type 0 where
   pub entries : opened o ≡ es
   pub count : o.count ≡ length es
-
-abbrev pub told : Listed → Option ℕ
-told (Under t) = some t
-told Nothing = none

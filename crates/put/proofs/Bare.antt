@@ -1,18 +1,19 @@
 -- A pass over rows that hide none of the names: no tree owed has a mask, and rows that stand side by side are written at once. Assumes nothing.
 use Prim.Native.Nat.{ℕ, zero, suc, ◌+◌, ◌-◌, ◌≤◌}
 use mathlib.Core.Path.{◌≡◌, refl, ap, sym, ◌∙◌}
-use mathlib.Core.Bool.{Bool, true, false, cond, not, false≢true}
-use mathlib.Core.Option.{Option, none, some}
+use mathlib.Core.Bool.{Bool, true, false, cond, false≢true}
+use Rattle.std.specs.Prelude.{Option, None, Some}
 use mathlib.Core.List.{List, [], ◌∷◌, ◌++◌, append_assoc}
 use native.Mathlib.Omega.{arith}
 use lib.Dec.{eqb}
-use lib.ListN.{length, get_or, take, drop, replicate, length-append}
-use lib.Seq.{take_at, drop_at, length-take-le, take-add, drop-drop}
-use borrow.Author.Tests.{eqb-true, eqb-false, ne_eqb}
+use lib.ListN.{get_or, drop, replicate}
+use lib.Seq.{take-add, drop-drop}
+use borrow.Author.Tests.{eqb-false, ne_eqb}
 use Rattle.meaning.specs.Types.{Form, low, rest}
 use Rattle.meaning.specs.Terms.{arity, code, head_from, Row}
 use Rattle.meaning.specs.Steps.{◌∨ᵇ◌}
-use Rattle.put.specs.Put.{next, pick, told, mark, fan, at_place, binds, inner, after, standing, below, Descends, Bare, first_row, end_row, chosen}
+use Rattle.put.specs.Put.{next, pick, mark, fan, at_place, binds, inner, after, standing, below, Descends, Bare, first_row, end_row, chosen}
+use Rattle.std.specs.Prelude.{is_some}
 use Rattle.put.proofs.Turning.{binds-none, binds-let}
 
 -- NO MASK: nothing is hidden in any tree
@@ -42,36 +43,29 @@ unfolding mark low rest ◌∨ᵇ◌
 mark-none b e [] = refl
 mark-none b e (y ∷ ys) = let z : mark b ys 0 ≡ 0 = mark-none b e ys in rw (e y, z) refl
 
-pub unmarked : (n : ℕ) → not (eqb n 0) ≡ false → n ≡ 0
-unmarked n e = by (eqb n 0) refl e
-  where
-    by : (b : Bool) → eqb n 0 ≡ b → not b ≡ false → n ≡ 0
-    by true p q = eqb-true n 0 p
-    by false p q = absurd (false≢true (sym q))
-
 -- a row that is no binder hides nothing
 pub bare-other : (form : ℕ → Form) (names : List ℕ) (k n w ty : ℕ) → (k ≡ 6 → ⊥) → (k ≡ 19 → ⊥) → mark (binds form (head_from k n w) ty) names 0 ≡ 0
 bare-other form names k n w ty p q = mark-none (binds form (head_from k n w) ty) (λ y. binds-none form k n w ty y p q) names
 
 -- nor does a let whose name is none of them
-next-none : (o : Option ℕ) → told (next o) ≡ false → told o ≡ false
-unfolding told next
-next-none none e = refl
-next-none (some j) e = e
+next-none : (o : Option ℕ) → is_some (next o) ≡ false → is_some o ≡ false
+unfolding next
+next-none None e = refl
+next-none (Some j) e = e
 
-unpicked : (ys : List ℕ) (w : ℕ) (b : ℕ → Bool) → ((y : ℕ) → b y ≡ eqb y w) → told (pick ys 0 w) ≡ false → mark b ys 0 ≡ 0
-unfolding pick mark told low rest ◌∨ᵇ◌
+unpicked : (ys : List ℕ) (w : ℕ) (b : ℕ → Bool) → ((y : ℕ) → b y ≡ eqb y w) → is_some (pick ys 0 w) ≡ false → mark b ys 0 ≡ 0
+unfolding pick mark low rest ◌∨ᵇ◌
 unpicked [] w b e q = refl
 unpicked (y ∷ ys) w b e q = by (eqb w y) refl (unpicked ys w b e) q
   where
-    by : (c : Bool) → eqb w y ≡ c → (told (pick ys 0 w) ≡ false → mark b ys 0 ≡ 0) → told (cond c (some 0) (next (pick ys 0 w))) ≡ false → mark b (y ∷ ys) 0 ≡ 0
+    by : (c : Bool) → eqb w y ≡ c → (is_some (pick ys 0 w) ≡ false → mark b ys 0 ≡ 0) → is_some (cond c (Some 0) (next (pick ys 0 w))) ≡ false → mark b (y ∷ ys) 0 ≡ 0
     by true p ih q = absurd (false≢true (sym q))
     by false p ih q =
         let z : mark b ys 0 ≡ 0 = ih (next-none (pick ys 0 w) q) in
         let n : b y ≡ false = e y ∙ ne_eqb y w (λ r. eqb-false w y p (sym r)) in
         rw (n, z) refl
 
-pub bare-let : (form : ℕ → Form) (names : List ℕ) (k n w ty : ℕ) → k ≡ 19 → told (pick names 0 w) ≡ false → mark (binds form (head_from k n w) ty) names 0 ≡ 0
+pub bare-let : (form : ℕ → Form) (names : List ℕ) (k n w ty : ℕ) → k ≡ 19 → is_some (pick names 0 w) ≡ false → mark (binds form (head_from k n w) ty) names 0 ≡ 0
 bare-let form names k n w ty e q = unpicked names w (binds form (head_from k n w) ty) (λ y. binds-let form k n w ty y e) q
 
 module _ (form : ℕ → Form) (names : List ℕ) (r : Row) (b : Bare form names r) where
@@ -116,28 +110,6 @@ standing-join l a b c h k =
 
 pub standing-none : (l : List (List ℕ)) (a : ℕ) → standing l a a ≡ []
 standing-none l a = let z : a - a ≡ 0 = omega arith in rw z refl
-
--- the next piece of what is to be written
-pub piece-written : (x y P R X : List (List ℕ)) (w k : ℕ) → length P ≡ k → w + k ≤ length x → y ≡ take w x ++ (P ++ drop (w + k) x) → take w x ++ (P ++ R) ≡ X → take (w + k) y ++ R ≡ X
-piece-written x y P R X w k lp h q e =
-    let A = take w x in
-    let la : length A ≡ w = length-take-le w x (omega arith) in
-    let lab : length (A ++ P) ≡ w + k = length-append A P ∙ omega (arith, la, lp) in
-    let t : take (w + k) y ≡ A ++ P = ap (take (w + k)) (q ∙ sym (append_assoc A P (drop (w + k) x))) ∙ take_at (A ++ P) (drop (w + k) x) (w + k) lab in
-    ap (λ (z : List (List ℕ)). z ++ R) t ∙ append_assoc A P R ∙ e
-
--- one span behind another
-pub both-written : (x y z A B : List (List ℕ)) (w k n m : ℕ) → length A ≡ k → w + k ≤ length x → m ≡ w + (k + n) → y ≡ take w x ++ (A ++ drop (w + k) x) → z ≡ take (w + k) y ++ (B ++ drop (w + k + n) y) → z ≡ take w x ++ ((A ++ B) ++ drop m x)
-both-written x y z A B w k n m la h em ey ez =
-    let P = take w x in
-    let lp : length P ≡ w = length-take-le w x (omega arith) in
-    let lpa : length (P ++ A) ≡ w + k = length-append P A ∙ omega (arith, lp, la) in
-    let e : y ≡ (P ++ A) ++ drop (w + k) x = ey ∙ sym (append_assoc P A (drop (w + k) x)) in
-    let t : take (w + k) y ≡ P ++ A = ap (take (w + k)) e ∙ take_at (P ++ A) (drop (w + k) x) (w + k) lpa in
-    let d : drop (w + k) y ≡ drop (w + k) x = ap (drop (w + k)) e ∙ drop_at (P ++ A) (drop (w + k) x) (w + k) lpa in
-    let r : w + k + n ≡ m = omega (arith, em) in
-    let f : drop (w + k + n) y ≡ drop m x = sym (drop-drop n (w + k) y) ∙ ap (drop n) d ∙ drop-drop n (w + k) x ∙ ap (λ (i : ℕ). drop i x) r in
-    ez ∙ rw (t, f) (append_assoc P A (B ++ drop m x) ∙ ap (λ (v : List (List ℕ)). P ++ v) (sym (append_assoc A B (drop m x))))
 
 -- a row that stands is written with those before it
 pub pending_next : (l R R' P X : List (List ℕ)) (from i f t : ℕ) → from ≤ i → f ≡ i → t ≡ i + 1 → R ≡ standing l f t ++ R' → P ++ (standing l from i ++ R) ≡ X → P ++ (standing l from (i + 1) ++ R') ≡ X

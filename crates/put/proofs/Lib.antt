@@ -6,3 +6,5 @@ pub mod Rows
 pub mod Bare
 pub mod Once
 pub mod Skipping
+pub mod Taking
+pub mod Short

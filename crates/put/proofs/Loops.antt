@@ -1,12 +1,12 @@
 -- A turn of the pass over a table: what is copied, and what is left to write. Assumes nothing.
 use Prim.Native.Nat.{ℕ, zero, suc, ◌+◌, ◌*◌, ◌-◌, ◌≤◌, ◌<◌}
 use mathlib.Core.Path.{◌≡◌, refl, ap, sym, ◌∙◌}
-use mathlib.Core.List.{List, [], ◌∷◌, ◌++◌, map, append_assoc, append-nil}
-use mathlib.Core.Option.{Option, none, some}
+use mathlib.Core.List.{List, [], ◌∷◌, ◌++◌, map}
+use Rattle.std.specs.Prelude.{Option, None, Some}
 use native.Mathlib.Omega.{arith}
 use native.Mathlib.Numerals.{add-one}
 use lib.ListN.{length, get_or, take, drop, length-append, length-drop, length-map, get_or-map}
-use lib.Seq.{drop-cons, take_at, take_all, length-take-le}
+use lib.Seq.{drop-cons, length-take-le}
 use Rattle.meaning.specs.Types.{Form}
 use Rattle.meaning.specs.Terms.{arity, Row, row_of, size, sizes, tree_at, grove}
 use Rattle.terms.proofs.Scan.{grove-size, grove-none, owed-some, owed-step, size-some}
@@ -46,24 +46,19 @@ pub record Going (form : ℕ → Form) (l : List (List ℕ)) (body : ℕ) (names
   pub counted : w + length (left form l names bounds masks owed i) ≡ length (put_rows form l body names bounds)
   pub few : w ≤ 2048 * i
 
--- and a loop that writes: the rows written and those left to write are all
-pub record Writing (form : ℕ → Form) (l : List (List ℕ)) (body : ℕ) (names bounds : List ℕ) (to : List (List ℕ)) (masks : List ℕ) (owed i w : ℕ) : Type 0 where
-  pub going : Going form l body names bounds masks owed i w
-  pub rows : take w to ++ left form l names bounds masks owed i ≡ put_rows form l body names bounds
-
 module _ {l : List (List ℕ)} {body : ℕ} {names bounds : List ℕ} (ready : Ready l body names bounds) where
   abbrev L : List Row
   L = map row_of l
 
-  span-in : (o : Option ℕ) (i : ℕ) → i < length l → ((j : ℕ) → o ≡ some j → j < length names) → (first_row bounds i o ≤ end_row bounds i o) × (end_row bounds i o ≤ length l)
+  span-in : (o : Option ℕ) (i : ℕ) → i < length l → ((j : ℕ) → o ≡ Some j → j < length names) → (first_row bounds i o ≤ end_row bounds i o) × (end_row bounds i o ≤ length l)
   unfolding first_row end_row
-  span-in none i h k = (omega arith, omega arith)
-  span-in (some j) i h k = ready.within j (k j refl)
+  span-in None i h k = (omega arith, omega arith)
+  span-in (Some j) i h k = ready.within j (k j refl)
 
   rows-standing : (o : Option ℕ) (i : ℕ) (r : List ℕ) → i < length l → get_or l i [] ≡ r → rows_for (arg_rows l bounds) o r ≡ standing l (first_row bounds i o) (end_row bounds i o)
   unfolding rows_for first_row end_row
-  rows-standing none i r h g = let z : i + 1 - i ≡ 1 = omega arith in rw (z, drop-cons l i [] h, g) refl
-  rows-standing (some j) i r h g = refl
+  rows-standing None i r h g = let z : i + 1 - i ≡ 1 = omega arith in rw (z, drop-cons l i [] h, g) refl
+  rows-standing (Some j) i r h g = refl
 
   -- before the loop nothing is hidden
   pub going_start : (form : ℕ → Form) (masks : List ℕ) → length masks ≡ 2048 → get_or masks 0 0 ≡ 0 → Going form l body names bounds masks 1 body 0
@@ -81,29 +76,14 @@ module _ {l : List (List ℕ)} {body : ℕ} {names bounds : List ℕ} (ready : R
   unfolding put_rows below
   written_start form masks d z = rw z refl
 
-  pub writing_start : (form : ℕ → Form) (masks : List ℕ) (d : List (List ℕ)) → length masks ≡ 2048 → get_or masks 0 0 ≡ 0 → Writing form l body names bounds d masks 1 body 0
-  writing_start form masks d k z = record { going = going_start form masks k z; rows = written_start form masks d z }
-
   module _ {form : ℕ → Form} {masks : List ℕ} {owed i w : ℕ} (go : Going form l body names bounds masks owed i w) where
     pub none_left : owed ≡ 0 → left form l names bounds masks owed i ≡ []
     unfolding below
     none_left z = rw z (run_none form names (arg_rows l bounds) (drop i l))
 
-    pub going_end : owed ≡ 0 → w ≡ length (put_rows form l body names bounds)
-    going_end z = omega (arith, go.counted, ap length (none_left z))
-
     -- the row behind the body
     pub going-behind : owed ≡ 0 → i ≡ body + size (tree_at L body)
     going-behind z = omega (arith, go.ends, ap (λ (n : ℕ). sizes (grove L i n)) z ∙ grove-none L i)
-
-    -- the rows written before the trees still owed; at the end all of them
-    pub written_all : (d : List (List ℕ)) → owed ≡ 0 → take w d ++ left form l names bounds masks owed i ≡ put_rows form l body names bounds → take w d ≡ put_rows form l body names bounds
-    written_all d z e = sym (append-nil (take w d)) ∙ ap (λ (x : List (List ℕ)). take w d ++ x) (sym (none_left z)) ∙ e
-
-    -- in a table of just as many
-    pub written-end : (d : List (List ℕ)) → owed ≡ 0 → length d ≡ length (put_rows form l body names bounds) → take w d ++ left form l names bounds masks owed i ≡ put_rows form l body names bounds
-        → d ≡ put_rows form l body names bounds
-    written-end d z k e = sym (take_all w d (omega (arith, going_end z))) ∙ written_all d z e
 
     module _ (some-owed : 0 < owed) where
       positive : owed ≡ 0 → ⊥
@@ -157,22 +137,3 @@ module _ {l : List (List ℕ)} {body : ℕ} {names bounds : List ℕ} (ready : R
 
           pub going-fits : w + (t - f) ≤ length (put_rows form l body names bounds)
           going-fits = omega (arith, go.counted, turned-length)
-
-          -- the rows copied
-          pub writing-next : (x y : List (List ℕ)) → w + (t - f) ≤ length x → y ≡ take w x ++ (take (t - f) (drop f l) ++ drop (w + (t - f)) x) → take w x ++ left form l names bounds masks owed i ≡ put_rows form l body names bounds
-              → Writing form l body names bounds y masks' owed' (i + 1) (w + (t - f))
-          writing-next x y h q e =
-              let A = take w x in
-              let B = standing l f t in
-              let C = drop (w + (t - f)) x in
-              let lb = standing-length l f t copied-span.0 copied-span.1 in
-              let la : length A ≡ w = length-take-le w x (omega arith) in
-              let lab : length (A ++ B) ≡ w + (t - f) = length-append A B ∙ omega (arith, la, lb) in
-              let p : take (w + (t - f)) y ≡ A ++ B = ap (take (w + (t - f))) (q ∙ sym (append_assoc A B C)) ∙ take_at (A ++ B) C (w + (t - f)) lab in
-              record {
-                going = going_next;
-                rows = ap (λ (z : List (List ℕ)). z ++ left form l names bounds masks' owed' (i + 1)) p
-                    ∙ append_assoc A B (left form l names bounds masks' owed' (i + 1))
-                    ∙ ap (λ (z : List (List ℕ)). A ++ z) (sym turned)
-                    ∙ e;
-              }

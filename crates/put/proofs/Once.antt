@@ -1,35 +1,40 @@
 -- One pass that writes: rows that stand, trees in which all names are hidden, and arguments. Assumes nothing.
-use Prim.Native.Nat.{ℕ, zero, suc, ◌+◌, ◌-◌, ◌%◌, ◌≤◌, ◌<◌}
+use Prim.Native.Nat.{ℕ, zero, suc, ◌+◌, ◌-◌, ◌≤◌, ◌<◌}
 use mathlib.Core.Path.{◌≡◌, refl, ap, sym, ◌∙◌, subst}
 use mathlib.Core.Bool.{Bool, true, false, cond}
-use mathlib.Core.List.{List, [], ◌∷◌, ◌++◌, map, append_assoc, map-append}
-use mathlib.Core.Option.{Option, none, some}
+use mathlib.Core.List.{List, [], ◌∷◌, ◌++◌, map, append_assoc, append-nil, map-append}
+use Rattle.std.specs.Prelude.{Option, None, Some}
 use native.Mathlib.Omega.{arith}
 use native.Mathlib.Decide.{dec_lt, ℕ_discrete}
-use lib.Dec.{eqb, leb}
+use lib.Dec.{eqb}
 use lib.ListN.{length, get_or, take, drop, length-append, length-map, length-replicate, take-append-drop}
 use lib.Seq.{drop-drop}
-use borrow.Author.Tests.{eqb-true, eq-eqb, ne_eqb, leb-false}
+use borrow.Author.Tests.{eqb-true, eq-eqb, ne_eqb}
 use Rattle.meaning.specs.Types.{Form, Param, params, names as names_of, find, low, rest, form_no, parts}
 use Rattle.meaning.specs.Terms.{Head, arity, code, word_of, head_from, Tree, Forest, node, end, more, head_of, ty_of, Row, flat, flats, raw, row_of, size, sizes, tree_at, grove, blank}
 use Rattle.meaning.specs.Steps.{◌∨ᵇ◌}
 use Rattle.meaning.proofs.Trees.Parse.{tree-row}
-use Rattle.rules.specs.Forms.{says, forms}
+use Rattle.rules.specs.Forms.{forms}
+use Rattle.layout.specs.Forms.{says}
 use Rattle.rules.proofs.ByRule.{params-few, params-high, params-all}
 use Rattle.terms.proofs.Scan.{grove-size}
-use Rattle.put.specs.Put.{next, pick, told, mark, fan, at_place, binds, rows_for, inner, after, chosen, run, standing, below, arg_rows, put_rows, Bare, Ready, Among, Widens, Within, Shut, Turns, Exact}
+use Rattle.layout.specs.declared.Row.{Row as Line}
+use Rattle.put.specs.Put.{Clear, StandsAlways, next, pick, mark, fan, at_place, binds, rows_for, inner, after, chosen, run, standing, below, arg_rows, put_rows, Bare, Ready, Among, Within, Shut, Turns, Exact}
+use Rattle.std.specs.Prelude.{is_some}
 use Rattle.put.specs.declared.Range.{Range}
+use Rattle.put.specs.declared.Span.{Span}
 use Rattle.put.specs.declared.Turn.{Turn}
 use Rattle.put.specs.declared.Turn.TheVariants.{Stands, Whole, Puts}
+use Rattle.put.specs.Sinks.{Taken}
 use Rattle.put.proofs.Turning.{binds-fun, chosen-var, chosen_none, span-at, span-own, below_on}
 use Rattle.put.proofs.Passing.{mark-picks, at_row}
 use Rattle.put.proofs.Meets.{stands}
-use Rattle.put.proofs.Loops.{Going, left, row_any, standing-length, going_start, going_end, going-behind, going-in, copied-span, going_next, written_start, written_all, turned}
-use Rattle.put.proofs.Bare.{unhidden, none_hidden, bare-other, bare-let, bare-descends, first-bare, end-bare, standing-join, standing-none, piece-written, pending_next}
+use Rattle.put.proofs.Loops.{Going, left, row_any, standing-length, going_start, none_left, going-behind, going-in, copied-span, going_next, written_start, turned}
+use Rattle.put.proofs.Bare.{unhidden, none_hidden, bare-other, bare-let, bare-descends, first-bare, end-bare, standing-join, standing-none, pending_next}
 
 -- The names of a function ------------------------------------------------------------------------------------------
 
-module _ (s : List ℕ) (t : ℕ) where
+module _ (s : List (List ℕ)) (t : ℕ) where
   pub params-parts : 0 < length (params (forms s t)) → params (forms s t) ≡ parts (says s t)
   params-parts h =
       let f = form_no (says s t) in
@@ -42,17 +47,17 @@ module _ (s : List ℕ) (t : ℕ) where
       ]
 
 -- a function binds its k-th name
-pub find-there : (ps : List Param) (k : ℕ) → k < length ps → told (find ps (get_or (names_of ps) k 0)) ≡ true
-unfolding told find names_of
+pub find-there : (ps : List Param) (k : ℕ) → k < length ps → is_some (find ps (get_or (names_of ps) k 0)) ≡ true
+unfolding find names_of
 find-there [] k h = absurd (omega arith)
 find-there (p ∷ ps) zero h = rw (eq-eqb p.name p.name refl) refl
 find-there (p ∷ ps) (suc k) h = by (eqb (get_or (names_of ps) k 0) p.name) (find-there ps k (omega arith))
   where
-    by : (b : Bool) → told (find ps (get_or (names_of ps) k 0)) ≡ true → told (cond b (some p.type) (find ps (get_or (names_of ps) k 0))) ≡ true
+    by : (b : Bool) → is_some (find ps (get_or (names_of ps) k 0)) ≡ true → is_some (cond b (Some p.type) (find ps (get_or (names_of ps) k 0))) ≡ true
     by true e = refl
     by false e = e
 
-pub among-more : (names : List ℕ) (ps : List Param) (k : ℕ) → k < length ps → get_or (names_of ps) k 0 ≡ get_or names k 0 → ((j : ℕ) → j < k → told (find ps (get_or names j 0)) ≡ true) → (j : ℕ) → j < k + 1 → told (find ps (get_or names j 0)) ≡ true
+pub among-more : (names : List ℕ) (ps : List Param) (k : ℕ) → k < length ps → get_or (names_of ps) k 0 ≡ get_or names k 0 → ((j : ℕ) → j < k → is_some (find ps (get_or names j 0)) ≡ true) → (j : ℕ) → j < k + 1 → is_some (find ps (get_or names j 0)) ≡ true
 among-more names ps k h e a j i = elim (ℕ_discrete j k) [
   | yes q ↦ rw (q, ← e) (find-there ps k h)
   | no q ↦ a j (omega (arith, i, q))
@@ -60,69 +65,64 @@ among-more names ps k h e a j i = elim (ℕ_discrete j k) [
 
 -- Names in a range -------------------------------------------------------------------------------------------------
 
--- a word in the range is not farther from the least name than the greatest
-pub not-far : (low high w : ℕ) → high ≤ 65535 → leb ((w + 4294967296 - low) % 4294967296) (high - low) ≡ false → low ≤ w → w ≤ high → ⊥
-not-far low high w h q a b = let d = leb-false ((w + 4294967296 - low) % 4294967296) (high - low) q in omega (arith, a, b, d, h)
-
-pub unpicked-out : (names : List ℕ) (w : ℕ) → ((j : ℕ) → j < length names → get_or names j 0 ≡ w → ⊥) → pick names 0 w ≡ none
+pub unpicked-out : (names : List ℕ) (w : ℕ) → ((j : ℕ) → j < length names → get_or names j 0 ≡ w → ⊥) → pick names 0 w ≡ None
 unfolding pick next rest low
 unpicked-out [] w h = refl
 unpicked-out (y ∷ ys) w h =
     let e : eqb w y ≡ false = ne_eqb w y (λ q. h 0 (omega arith) (sym q)) in
-    let z : pick ys 0 w ≡ none = unpicked-out ys w (λ j k. h (suc j) (omega (arith, k))) in
+    let z : pick ys 0 w ≡ None = unpicked-out ys w (λ j k. h (suc j) (omega (arith, k))) in
     rw (e, z) refl
 
-pub within_more : (names : List ℕ) (x z : Range) (k : ℕ) → Widens x z (get_or names k 0) → ((j : ℕ) → j < k → (x.low ≤ get_or names j 0) × (get_or names j 0 ≤ x.high)) → (j : ℕ) → j < k + 1 → (z.low ≤ get_or names j 0) × (get_or names j 0 ≤ z.high)
-within_more names x z k w a j i = elim (ℕ_discrete j k) [
-  | yes q ↦ rw q (omega (arith, w.least), omega (arith, w.greatest))
-  | no q ↦ let b = a j (omega (arith, i, q)) in (omega (arith, b.0, w.least), omega (arith, b.1, w.greatest))
-]
-
 -- a row that is no function, and whose word is none of the names
-module _ (form : ℕ → Form) (names : List ℕ) (k n w ty : ℕ) (function : k ≡ 6 → ⊥) (unpicked : pick names 0 w ≡ none) where
+module _ (form : ℕ → Form) (names : List ℕ) (k n w ty : ℕ) (function : k ≡ 6 → ⊥) (unpicked : pick names 0 w ≡ None) where
   pub other-bare : mark (binds form (head_from k n w) ty) names 0 ≡ 0
-  unfolding told
   other-bare = elim (ℕ_discrete k 19) [
-    | yes e ↦ bare-let form names k n w ty e (ap told unpicked)
+    | yes e ↦ bare-let form names k n w ty e (ap is_some unpicked)
     | no e ↦ bare-other form names k n w ty function e
   ]
 
-  pub other-chosen : chosen names (head_from k n w) 0 ≡ none
+  pub other-chosen : chosen names (head_from k n w) 0 ≡ None
   other-chosen = elim (ℕ_discrete k 5) [
     | yes e ↦ chosen-var names k n w 0 e ∙ unpicked
     | no e ↦ chosen_none names k n w 0 e
   ]
 
 module _ (form : ℕ → Form) (names : List ℕ) (x : Range) (inside : Within names x) (k n w ty : ℕ) (function : k ≡ 6 → ⊥) (out : x.low ≤ w → w ≤ x.high → ⊥) where
-  none-picked : pick names 0 w ≡ none
+  none-picked : pick names 0 w ≡ None
   none-picked = unpicked-out names w (λ j h e. let q = inside.each j h in out (omega (arith, q.0, e)) (omega (arith, q.1, e)))
 
   pub out-bare : mark (binds form (head_from k n w) ty) names 0 ≡ 0
   out-bare = other-bare form names k n w ty function none-picked
 
-  pub out-chosen : chosen names (head_from k n w) 0 ≡ none
+  pub out-chosen : chosen names (head_from k n w) 0 ≡ None
   out-chosen = other-chosen form names k n w ty function none-picked
+
+-- a row that no name in the range touches stands
+pub clear-stands : (names bounds : List ℕ) (x : Range) → Within names x → (r : Line) → Clear x r → StandsAlways names bounds r
+unfolding Turns row_of
+clear-stands names bounds x inside r k form =
+    (out-bare form names x inside r.kind r.n r.word r.ty k.other k.out, out-chosen form names x inside r.kind r.n r.word r.ty k.other k.out)
 
 -- Where all names are hidden ---------------------------------------------------------------------------------------
 
-hidden-picks : (b : ℕ → Bool) (ys : List ℕ) (m x : ℕ) → ((j : ℕ) → j < length ys → b (get_or ys j 0) ≡ true) → cond (b x) none (pick ys m x) ≡ none
+hidden-picks : (b : ℕ → Bool) (ys : List ℕ) (m x : ℕ) → ((j : ℕ) → j < length ys → b (get_or ys j 0) ≡ true) → cond (b x) None (pick ys m x) ≡ None
 unfolding pick next
 hidden-picks b [] m x h = by (b x)
   where
-    by : (c : Bool) → ◌≡◌ {A = Option ℕ} (cond c none none) none
+    by : (c : Bool) → ◌≡◌ {A = Option ℕ} (cond c None None) None
     by true = refl
     by false = refl
 hidden-picks b (y ∷ ys) m x h = by (eqb x y) refl (b x) refl (hidden-picks b ys (rest m) x (λ j k. h (suc j) (omega (arith, k))))
   where
-    by : (c : Bool) → eqb x y ≡ c → (d : Bool) → b x ≡ d → cond (b x) none (pick ys (rest m) x) ≡ none → cond (b x) none (cond c (cond (low m) none (some 0)) (next (pick ys (rest m) x))) ≡ none
+    by : (c : Bool) → eqb x y ≡ c → (d : Bool) → b x ≡ d → cond (b x) None (pick ys (rest m) x) ≡ None → cond (b x) None (cond c (cond (low m) None (Some 0)) (next (pick ys (rest m) x))) ≡ None
     by true e d f i = let z : b x ≡ true = ap b (eqb-true x y e) ∙ h 0 (omega arith) in rw z refl
     by false e true f i = rw f refl
-    by false e false f i = let z : pick ys (rest m) x ≡ none = rw f at i in rw (f, z) refl
+    by false e false f i = let z : pick ys (rest m) x ≡ None = rw f at i in rw (f, z) refl
 
 mark-shut : (b : ℕ → Bool) (ys : List ℕ) (m : ℕ) → Shut ys m → Shut ys (mark b ys m)
 mark-shut b ys m s x = mark-picks b ys m x ∙ rw (s x) (by (b x))
   where
-    by : (c : Bool) → ◌≡◌ {A = Option ℕ} (cond c none none) none
+    by : (c : Bool) → ◌≡◌ {A = Option ℕ} (cond c None None) None
     by true = refl
     by false = refl
 
@@ -148,11 +148,11 @@ module _ (form : ℕ → Form) (names : List ℕ) (args : ℕ → List (List ℕ
       by false true (suc i) = mark-shut (binds form h ty) names m s
       by false false i = s
 
-  chosen-shut : (h : Head) (m : ℕ) → Shut names m → chosen names h m ≡ none
+  chosen-shut : (h : Head) (m : ℕ) → Shut names m → chosen names h m ≡ None
   unfolding chosen
   chosen-shut h m s = by (eqb (code h) 5)
     where
-      by : (a : Bool) → cond a (pick names m (word_of h)) none ≡ none
+      by : (a : Bool) → cond a (pick names m (word_of h)) None ≡ None
       by true = s (word_of h)
       by false = refl
 
@@ -160,7 +160,7 @@ module _ (form : ℕ → Form) (names : List ℕ) (args : ℕ → List (List ℕ
     unfolding flat run after fan rows_for head_of ty_of
 
     -- the pass leaves a tree as it is where no name is put at its root or below it
-    pub shut-below : (t : Tree) (m : ℕ) (ms : List ℕ) (rs : List (List ℕ)) → chosen names (head_of t) m ≡ none → ((i : ℕ) → Shut names (inner form names (head_of t) (ty_of t) m i))
+    pub shut-below : (t : Tree) (m : ℕ) (ms : List ℕ) (rs : List (List ℕ)) → chosen names (head_of t) m ≡ None → ((i : ℕ) → Shut names (inner form names (head_of t) (ty_of t) m i))
         → run form names args (map raw (flat t) ++ rs) (m ∷ ms) ≡ map raw (flat t) ++ run form names args rs ms
     shut-below (node h ty f) m ms rs c s =
         at_row form names (λ j. blank) args (record { head = h; type = ty }) (map raw (flats f) ++ rs) m ms
@@ -181,20 +181,20 @@ module _ (form : ℕ → Form) (names : List ℕ) (args : ℕ → List (List ℕ
 
 -- One name ---------------------------------------------------------------------------------------------------------
 
-pub one-picked : (y x : ℕ) → x ≡ y → pick (y ∷ []) 0 x ≡ some 0
+pub one-picked : (y x : ℕ) → x ≡ y → pick (y ∷ []) 0 x ≡ Some 0
 unfolding pick low
 one-picked y x e = rw (eq-eqb x y e) refl
 
-pub one-unpicked : (y x : ℕ) → (x ≡ y → ⊥) → pick (y ∷ []) 0 x ≡ none
+pub one-unpicked : (y x : ℕ) → (x ≡ y → ⊥) → pick (y ∷ []) 0 x ≡ None
 unfolding pick next
 one-unpicked y x e = rw (ne_eqb x y e) refl
 
-pub one-among : (y : ℕ) (ps : List Param) → told (find ps y) ≡ true → Among (y ∷ []) ps
+pub one-among : (y : ℕ) (ps : List Param) → is_some (find ps y) ≡ true → Among (y ∷ []) ps
 one-among y ps e zero h = e
 one-among y ps e (suc j) h = absurd (omega arith)
 
 -- a function that does not bind it
-pub one-bare : (form : ℕ → Form) (y k n w ty : ℕ) → k ≡ 6 → told (find (params (form ty)) y) ≡ false → mark (binds form (head_from k n w) ty) (y ∷ []) 0 ≡ 0
+pub one-bare : (form : ℕ → Form) (y k n w ty : ℕ) → k ≡ 6 → is_some (find (params (form ty)) y) ≡ false → mark (binds form (head_from k n w) ty) (y ∷ []) 0 ≡ 0
 unfolding mark low rest ◌∨ᵇ◌
 one-bare form y k n w ty e h = rw (binds-fun form k n w ty y e ∙ h) refl
 
@@ -202,43 +202,63 @@ one-bare form y k n w ty e h = rw (binds-fun form k n w ty y e ∙ h) refl
 
 -- what the turn says
 module _ (form : ℕ → Form) (names bounds : List ℕ) (r : Row) (x : Turn) (t : Turns form names bounds r x) where
-  pub turn-stands : x ≡ Stands → Bare form names r × (chosen names r.head 0 ≡ none)
+  pub turn-stands : x ≡ Stands → Bare form names r × (chosen names r.head 0 ≡ None)
   unfolding Turns
   turn-stands e = subst (λ (y : Turn). Turns form names bounds r y) e t
 
-  pub turn-whole : x ≡ Whole → (chosen names r.head 0 ≡ none) × ((i : ℕ) → Shut names (inner form names r.head r.type 0 i))
+  pub turn-whole : x ≡ Whole → (chosen names r.head 0 ≡ None) × ((i : ℕ) → Shut names (inner form names r.head r.type 0 i))
   unfolding Turns
   turn-whole e = subst (λ (y : Turn). Turns form names bounds r y) e t
 
-  pub turn-puts : (f u : ℕ) → x ≡ Puts f u → Bare form names r × ((j : ℕ) × (chosen names r.head 0 ≡ some j) × (f ≡ get_or bounds j 0) × (u ≡ get_or bounds (j + 1) 0))
+  pub turn-puts : (s : Span) → x ≡ Puts s → Bare form names r × ((j : ℕ) × (chosen names r.head 0 ≡ Some j) × (s.from ≡ get_or bounds j 0) × (s.to ≡ get_or bounds (j + 1) 0))
   unfolding Turns
-  turn-puts f u e = subst (λ (y : Turn). Turns form names bounds r y) e t
+  turn-puts s e = subst (λ (y : Turn). Turns form names bounds r y) e t
 
--- what the loop keeps: w rows are written, those from row `from` on stand side by side and are still to be copied, the others are left
-pub record Onward (form : ℕ → Form) (l : List (List ℕ)) (body : ℕ) (names bounds : List ℕ) (to : List (List ℕ)) (owed i from w : ℕ) : Type 0 where
-  pub going : Going form l body names bounds unhidden owed i (w + (i - from))
+-- what the pass keeps: the rows taken, those from row `from` on that stand side by side and are still to be taken, and those left are all
+pub record Onward {S : Type 0} (holds : S → List (List ℕ) → Type 0) (room loan : S → ℕ) (form : ℕ → Form) (l : List (List ℕ)) (body : ℕ) (names bounds : List ℕ) (owed i from : ℕ) (sink sink' : S) : Type 0 where
+  pub taken : List (List ℕ)
+  pub held : holds sink' taken
+  pub going : Going form l body names bounds unhidden owed i (length taken + (i - from))
   pub behind : from ≤ i
-  pub rows : take w to ++ (standing l from i ++ left form l names bounds unhidden owed i) ≡ put_rows form l body names bounds
+  pub rows : taken ++ (standing l from i ++ left form l names bounds unhidden owed i) ≡ put_rows form l body names bounds
+  pub room_left : room sink' + length taken ≡ room sink
+  pub same_loan : loan sink' ≡ loan sink
 
-module _ {l : List (List ℕ)} {body : ℕ} {names bounds : List ℕ} (ready : Ready l body names bounds) where
-  pub onward-start : (form : ℕ → Form) (to : List (List ℕ)) → Onward form l body names bounds to 1 body body 0
-  onward-start form to =
+module _ {S : Type 0} {holds : S → List (List ℕ) → Type 0} {room loan : S → ℕ} {l : List (List ℕ)} {body : ℕ} {names bounds : List ℕ} (ready : Ready l body names bounds) where
+  pub onward-start : (form : ℕ → Form) (s : S) → holds s [] → Onward holds room loan form l body names bounds 1 body body s s
+  onward-start form s h =
       let z : 0 + (body - body) ≡ 0 = omega arith in
       record {
+        taken = [];
+        held = h;
         going = rw z (going_start ready form unhidden (length-replicate {A = ℕ} 2048 0) (none_hidden 0));
         behind = omega arith;
-        rows = rw (standing-none l body) (written_start ready form unhidden to (none_hidden 0));
+        rows = rw (standing-none l body) (written_start ready form unhidden [] (none_hidden 0));
+        room_left = omega arith;
+        same_loan = refl;
       }
 
-  module _ {form : ℕ → Form} {to : List (List ℕ)} {owed i from w : ℕ} (o : Onward form l body names bounds to owed i from w) where
-    -- at the end
-    pub onward-end : owed ≡ 0 → (i ≡ body + size (tree_at (map row_of l) body)) × (w + (i - from) ≡ length (put_rows form l body names bounds))
-    onward-end z = (going-behind ready o.going z, going_end ready o.going z)
+  module _ {form : ℕ → Form} {owed i from : ℕ} {s₀ s : S} (o : Onward holds room loan form l body names bounds owed i from s₀ s) where
+    -- the rows that stand before row i are taken
+    abbrev pub Took : S → Type 0
+    Took s' = (holds s' (o.taken ++ standing l from i) × (room s' + (i - from) ≡ room s)) × (loan s' ≡ loan s)
 
-    pub onward-last : owed ≡ 0 → (y : List (List ℕ)) → w + (i - from) ≤ length to → i ≤ length l → y ≡ take w to ++ (standing l from i ++ drop (w + (i - from)) to) → take (w + (i - from)) y ≡ put_rows form l body names bounds
-    onward-last z y h k e =
-        let p = piece-written to y (standing l from i) (left form l names bounds unhidden owed i) (put_rows form l body names bounds) w (i - from) (standing-length l from i o.behind k) h e o.rows in
-        written_all ready o.going y z p
+    -- at the end
+    pub onward-behind : owed ≡ 0 → (i ≡ body + size (tree_at (map row_of l) body)) × (i ≤ length l)
+    onward-behind z = let e = going-behind ready o.going z in (e, omega (arith, e, ready.whole))
+
+    pub onward-end : owed ≡ 0 → (s' : S) → Took s' → Taken holds room loan form l body names bounds s₀ s' i
+    onward-end z s' k =
+        let A = o.taken ++ standing l from i in
+        let e : A ≡ put_rows form l body names bounds =
+        sym (append-nil A) ∙ append_assoc o.taken (standing l from i) [] ∙ ap (λ (x : List (List ℕ)). o.taken ++ (standing l from i ++ x)) (sym (none_left ready o.going z)) ∙ o.rows in
+        let n : length A ≡ length o.taken + (i - from) = length-append o.taken (standing l from i) ∙ ap (λ (x : ℕ). length o.taken + x) (standing-length l from i o.behind (onward-behind z).1) in
+        record {
+          behind = (onward-behind z).0;
+          rows = rw e at k.0.0;
+          left = omega (arith, o.room_left, k.0.1, n, ap length e);
+          same_loan = k.1 ∙ o.same_loan;
+        }
 
     module _ (some-owed : 0 < owed) where
       pub onward-in : (i < length l) × (owed ≤ 2048)
@@ -250,51 +270,62 @@ module _ {l : List (List ℕ)} {body : ℕ} {names bounds : List ℕ} (ready : R
 
         module _ (bare : Bare form names (row_of r)) {owed' : ℕ} (d : owed' ≡ owed - 1 + arity (row_of r).head) where
           -- the row stands
-          pub onward-stands : chosen names (row_of r).head 0 ≡ none → Onward form l body names bounds to owed' (i + 1) from w
+          pub onward-stands : chosen names (row_of r).head 0 ≡ None → Onward holds room loan form l body names bounds owed' (i + 1) from s₀ s
           onward-stands c =
               let de = bare-descends form names (row_of r) bare owed owed' d in
-              let s = span-own bounds i (chosen names (row_of r).head 0) c in
-              let fe = first-bare names bounds (row_of r) i (owed - 1) i s.0 in
-              let te = end-bare names bounds (row_of r) i (owed - 1) (i + 1) s.1 in
+              let sp = span-own bounds i (chosen names (row_of r).head 0) c in
+              let fe = first-bare names bounds (row_of r) i (owed - 1) i sp.0 in
+              let te = end-bare names bounds (row_of r) i (owed - 1) (i + 1) sp.1 in
               let n = going_next ready o.going some-owed g de fe te in
-              let z : w + (i - from) + (i + 1 - i) ≡ w + (i + 1 - from) = omega (arith, o.behind) in
+              let z : length o.taken + (i - from) + (i + 1 - i) ≡ length o.taken + (i + 1 - from) = omega (arith, o.behind) in
               record {
+                taken = o.taken;
+                held = o.held;
                 going = rw z at n;
                 behind = omega (arith, o.behind);
-                rows = pending_next l _ _ (take w to) _ from i i (i + 1) o.behind refl refl (turned ready o.going some-owed g de fe te) o.rows;
+                rows = pending_next l _ _ o.taken _ from i i (i + 1) o.behind refl refl (turned ready o.going some-owed g de fe te) o.rows;
+                room_left = o.room_left;
+                same_loan = o.same_loan;
               }
 
           -- an argument is put for it
-          module _ {f t : ℕ} (j : ℕ) (c : chosen names (row_of r).head 0 ≡ some j) (ef : f ≡ get_or bounds j 0) (et : t ≡ get_or bounds (j + 1) 0) where
+          module _ {f t : ℕ} (j : ℕ) (c : chosen names (row_of r).head 0 ≡ Some j) (ef : f ≡ get_or bounds j 0) (et : t ≡ get_or bounds (j + 1) 0) where
             pub onward-span : (f ≤ t) × (t ≤ length l)
             onward-span =
                 let de = bare-descends form names (row_of r) bare owed owed' d in
-                let s = span-at bounds i (chosen names (row_of r).head 0) j f t c ef et in
-                copied-span ready o.going some-owed g de (first-bare names bounds (row_of r) i (owed - 1) f s.0) (end-bare names bounds (row_of r) i (owed - 1) t s.1)
+                let sp = span-at bounds i (chosen names (row_of r).head 0) j f t c ef et in
+                copied-span ready o.going some-owed g de (first-bare names bounds (row_of r) i (owed - 1) f sp.0) (end-bare names bounds (row_of r) i (owed - 1) t sp.1)
 
-            pub onward-puts : (y : List (List ℕ)) (m : ℕ) → m ≡ (i - from) + (t - f) → w + m ≤ length to → y ≡ take w to ++ ((standing l from i ++ standing l f t) ++ drop (w + m) to)
-                → Onward form l body names bounds y owed' (i + 1) (i + 1) (w + m)
-            onward-puts y m em h e =
+            pub onward-puts : (s' s″ : S) → Took s' → (holds s″ ((o.taken ++ standing l from i) ++ standing l f t) × (room s″ + (t - f) ≡ room s')) × (loan s″ ≡ loan s')
+                → Onward holds room loan form l body names bounds owed' (i + 1) (i + 1) s₀ s″
+            onward-puts s' s″ k q =
                 let de = bare-descends form names (row_of r) bare owed owed' d in
-                let s = span-at bounds i (chosen names (row_of r).head 0) j f t c ef et in
-                let fe = first-bare names bounds (row_of r) i (owed - 1) f s.0 in
-                let te = end-bare names bounds (row_of r) i (owed - 1) t s.1 in
+                let sp = span-at bounds i (chosen names (row_of r).head 0) j f t c ef et in
+                let fe = first-bare names bounds (row_of r) i (owed - 1) f sp.0 in
+                let te = end-bare names bounds (row_of r) i (owed - 1) t sp.1 in
                 let n = going_next ready o.going some-owed g de fe te in
-                let z : w + (i - from) + (t - f) ≡ w + m + (i + 1 - (i + 1)) = omega (arith, em) in
-                let P = standing l from i ++ standing l f t in
+                let A = o.taken ++ standing l from i in
+                let P = A ++ standing l f t in
                 let R = left form l names bounds unhidden owed' (i + 1) in
-                let sp = onward-span in
-                let lp : length P ≡ m = length-append (standing l from i) (standing l f t) ∙ omega (arith, em, standing-length l from i o.behind (omega (arith, onward-in.0)), standing-length l f t sp.0 sp.1) in
-                let q : take w to ++ (P ++ R) ≡ put_rows form l body names bounds =
-                ap (λ (u : List (List ℕ)). take w to ++ u) (append_assoc (standing l from i) (standing l f t) R ∙ ap (λ (u : List (List ℕ)). standing l from i ++ u) (sym (turned ready o.going some-owed g de fe te))) ∙ o.rows in
+                let la : length A ≡ length o.taken + (i - from) = length-append o.taken (standing l from i) ∙ ap (λ (x : ℕ). length o.taken + x) (standing-length l from i o.behind (omega (arith, onward-in.0))) in
+                let lp : length P ≡ length A + (t - f) = length-append A (standing l f t) ∙ ap (λ (x : ℕ). length A + x) (standing-length l f t onward-span.0 onward-span.1) in
+                let z : length o.taken + (i - from) + (t - f) ≡ length P + (i + 1 - (i + 1)) = omega (arith, la, lp) in
                 record {
+                  taken = P;
+                  held = q.0.0;
                   going = rw z at n;
                   behind = omega arith;
-                  rows = rw (standing-none l (i + 1)) (piece-written to y P R _ w m lp h e q);
+                  rows = ap (λ (x : List (List ℕ)). P ++ (x ++ R)) (standing-none l (i + 1))
+                      ∙ append_assoc A (standing l f t) R
+                      ∙ append_assoc o.taken (standing l from i) (standing l f t ++ R)
+                      ∙ ap (λ (u : List (List ℕ)). o.taken ++ (standing l from i ++ u)) (sym (turned ready o.going some-owed g de fe te))
+                      ∙ o.rows;
+                  room_left = omega (arith, o.room_left, k.0.1, q.0.1, la, lp);
+                  same_loan = q.1 ∙ k.1 ∙ o.same_loan;
                 }
 
         -- the row and all its trees stand
-        module _ (exact : Exact l) (c : chosen names (row_of r).head 0 ≡ none) (s : (k : ℕ) → Shut names (inner form names (row_of r).head (row_of r).type 0 k)) where
+        module _ (exact : Exact l) (c : chosen names (row_of r).head 0 ≡ None) (shut : (k : ℕ) → Shut names (inner form names (row_of r).head (row_of r).type 0 k)) where
           there : tree_at L i ≡ node (row_of r).head (row_of r).type (grove L (i + 1) (arity (row_of r).head))
           there = tree-row L i (row_of r) (row_of r) (omega (arith, onward-in.0, length-map l row_of)) (row_any l i r onward-in.0 g)
 
@@ -321,16 +352,18 @@ module _ {l : List (List ℕ)} {body : ℕ} {names bounds : List ℕ} (ready : R
               let bl : below unhidden owed ≡ 0 ∷ below unhidden (owed - 1) = below_on unhidden owed (owed - 1) (omega arith) ∙ ap (λ (x : ℕ). x ∷ below unhidden (owed - 1)) (none_hidden (owed - 1)) in
               ap (λ (x : List (List ℕ)). run form names (arg_rows l bounds) x (below unhidden owed)) dr
               ∙ ap (run form names (arg_rows l bounds) (map raw (flat (tree_at L i)) ++ drop E l)) bl
-              ∙ shut-below form names (arg_rows l bounds) (tree_at L i) 0 (below unhidden (owed - 1)) (drop E l) (rw there c) (rw there s)
+              ∙ shut-below form names (arg_rows l bounds) (tree_at L i) 0 (below unhidden (owed - 1)) (drop E l) (rw there c) (rw there shut)
               ∙ ap (λ (x : List (List ℕ)). x ++ left form l names bounds unhidden (owed - 1) E) (sym st)
 
-          pub onward-tree : {e : ℕ} → e ≡ E → Onward form l body names bounds to (owed - 1) e from w
+          pub onward-tree : {e : ℕ} → e ≡ E → Onward holds room loan form l body names bounds (owed - 1) e from s₀ s
           onward-tree {e} q =
               let k : i ≤ E = omega arith in
               let h : from ≤ E = omega (arith, o.behind) in
               let len : length (left form l names bounds unhidden owed i) ≡ size (tree_at L i) + length (left form l names bounds unhidden (owed - 1) E) =
               ap length tree-left ∙ length-append (standing l i E) (left form l names bounds unhidden (owed - 1) E) ∙ ap (λ (x : ℕ). x + length (left form l names bounds unhidden (owed - 1) E)) (standing-length l i E k tree-in ∙ omega arith) in
               rw q record {
+                taken = o.taken;
+                held = o.held;
                 going = record {
                   long = o.going.long;
                   ends = sym one_less ∙ o.going.ends;
@@ -338,9 +371,11 @@ module _ {l : List (List ℕ)} {body : ℕ} {names bounds : List ℕ} (ready : R
                   few = omega (arith, o.going.few, o.behind);
                 };
                 behind = h;
-                rows = ap (λ (u : List (List ℕ)). take w to ++ u)
+                rows = ap (λ (u : List (List ℕ)). o.taken ++ u)
                     (ap (λ (u : List (List ℕ)). u ++ left form l names bounds unhidden (owed - 1) E) (sym (standing-join l from i E o.behind k))
                     ∙ append_assoc (standing l from i) (standing l i E) (left form l names bounds unhidden (owed - 1) E)
                     ∙ ap (λ (u : List (List ℕ)). standing l from i ++ u) (sym tree-left))
                     ∙ o.rows;
+                room_left = o.room_left;
+                same_loan = o.same_loan;
               }

@@ -3,7 +3,7 @@ use Prim.Native.Nat.{ℕ, zero, suc, ◌+◌, ◌*◌, ◌<◌, ◌%◌}
 use mathlib.Core.Path.{◌≡◌, refl, ap, sym, ◌∙◌}
 use mathlib.Core.Bool.{Bool, true, false, cond}
 use mathlib.Core.List.{List, [], ◌∷◌, ◌++◌, map, append_assoc, append-nil, map-append}
-use mathlib.Core.Option.{Option, none, some}
+use Rattle.std.specs.Prelude.{Option, None, Some}
 use native.Mathlib.Omega.{arith}
 use lib.Dec.{eqb}
 use lib.ListN.{length, take}
@@ -14,7 +14,8 @@ use Rattle.meaning.proofs.Trees.Tests.{none-some}
 use Rattle.meaning.proofs.Bytes.RowTables.{row-raw}
 use Rattle.meaning.specs.Typing.{Tys, ⟨⟩, ◌▹◌, tys, scope}
 use Rattle.meaning.specs.Steps.{◌∨ᵇ◌, Sub, veil, hide, swap, hit, assign, put, puts}
-use Rattle.put.specs.Put.{next, pick, told, mark, fan, at_place, binds, rows_for, inner, after, chosen, run}
+use Rattle.put.specs.Put.{next, pick, mark, fan, at_place, binds, rows_for, inner, after, chosen, run}
+use Rattle.std.specs.Prelude.{is_some}
 
 -- Masks ----------------------------------------------------------------------------------------------------------
 
@@ -28,53 +29,52 @@ unfolding rest
 rest-bit true n = omega arith
 rest-bit false n = omega arith
 
-next-hidden : (b : Bool) (o : Option ℕ) → next (cond b none o) ≡ cond b none (next o)
+next-hidden : (b : Bool) (o : Option ℕ) → next (cond b None o) ≡ cond b None (next o)
 unfolding next
 next-hidden true o = refl
 next-hidden false o = refl
 
-both-hide : (l b : Bool) (o : Option ℕ) → cond (l ∨ᵇ b) none o ≡ cond b none (cond l none o)
+both-hide : (l b : Bool) (o : Option ℕ) → cond (l ∨ᵇ b) None o ≡ cond b None (cond l None o)
 unfolding ◌∨ᵇ◌
 both-hide true true o = refl
 both-hide true false o = refl
 both-hide false b o = refl
 
 -- a name that is marked is not picked, others as before
-pub mark-picks : (b : ℕ → Bool) (ys : List ℕ) (m x : ℕ) → pick ys (mark b ys m) x ≡ cond (b x) none (pick ys m x)
+pub mark-picks : (b : ℕ → Bool) (ys : List ℕ) (m x : ℕ) → pick ys (mark b ys m) x ≡ cond (b x) None (pick ys m x)
 unfolding pick mark
 mark-picks b [] m x = by_bit (b x)
   where
-    by_bit : (c : Bool) → ◌≡◌ {A = Option ℕ} none (cond c none none)
+    by_bit : (c : Bool) → ◌≡◌ {A = Option ℕ} None (cond c None None)
     by_bit true = refl
     by_bit false = refl
 mark-picks b (y ∷ ys) m x =
     rw (low_bit (low m ∨ᵇ b y) (mark b ys (rest m)), rest-bit (low m ∨ᵇ b y) (mark b ys (rest m)), mark-picks b ys (rest m) x) (by_name (eqb x y) refl)
   where
-    by_name : (c : Bool) → eqb x y ≡ c → cond c (cond (low m ∨ᵇ b y) none (some 0)) (next (cond (b x) none (pick ys (rest m) x))) ≡ cond (b x) none (cond c (cond (low m) none (some 0)) (next (pick ys (rest m) x)))
-    by_name true e = rw (eqb-true x y e) (both-hide (low m) (b y) (some 0))
+    by_name : (c : Bool) → eqb x y ≡ c → cond c (cond (low m ∨ᵇ b y) None (Some 0)) (next (cond (b x) None (pick ys (rest m) x))) ≡ cond (b x) None (cond c (cond (low m) None (Some 0)) (next (pick ys (rest m) x)))
+    by_name true e = rw (eqb-true x y e) (both-hide (low m) (b y) (Some 0))
     by_name false e = next-hidden (b x) (pick ys (rest m) x)
 
 -- What is put --------------------------------------------------------------------------------------------------
 
 unfoldable pub from : (ℕ → Tree) → Option ℕ → Option Tree
-from ts none = none
-from ts (some j) = some (ts j)
+from ts None = None
+from ts (Some j) = Some (ts j)
 
 -- what is put where the names in the mask are hidden
 abbrev pub sub : List ℕ → (ℕ → Tree) → ℕ → Sub
 sub ys ts m x = from ts (pick ys m x)
 
-veiled : (ts : ℕ → Tree) (o : Option ℕ) (p : Option ℕ) → from ts (cond (told o) none p) ≡ veil o (from ts p)
-unfolding from told veil
-veiled ts none p = refl
-veiled ts (some t) p = refl
+veiled : (ts : ℕ → Tree) (o : Option ℕ) (p : Option ℕ) → from ts (cond (is_some o) None p) ≡ veil o (from ts p)
+unfolding from veil
+veiled ts None p = refl
+veiled ts (Some t) p = refl
 
-pub mark-hides : (ys : List ℕ) (ts : ℕ → Tree) (m : ℕ) (b : ℕ → Bool) (qs : List Param) → ((x : ℕ) → b x ≡ told (find qs x)) → (x : ℕ) → sub ys ts (mark b ys m) x ≡ hide qs (sub ys ts m) x
+pub mark-hides : (ys : List ℕ) (ts : ℕ → Tree) (m : ℕ) (b : ℕ → Bool) (qs : List Param) → ((x : ℕ) → b x ≡ is_some (find qs x)) → (x : ℕ) → sub ys ts (mark b ys m) x ≡ hide qs (sub ys ts m) x
 unfolding hide
 mark-hides ys ts m b qs e x = ap (from ts) (mark-picks b ys m x) ∙ rw (e x) (veiled ts (find qs x) (pick ys m x))
 
-told-one : (b : Bool) (t : ℕ) → b ≡ told (cond b (some t) none)
-unfolding told
+told-one : (b : Bool) (t : ℕ) → b ≡ is_some (cond b (Some t) None)
 told-one true t = refl
 told-one false t = refl
 
@@ -114,8 +114,8 @@ module _ (form : ℕ → Form) (ys : List ℕ) (ts : ℕ → Tree) where
   here σ m e (var x) ty end l = rw (sym (e x)) (by-pick (pick ys m x))
     where
       by-pick : (o : Option ℕ) → rows_for (λ j. map raw (flat (ts j))) o (raw (record { head = var x; type = ty })) ++ l ≡ map raw (flat (swap (from ts o) (node (var x) ty end))) ++ l
-      by-pick none = refl
-      by-pick (some j) = refl
+      by-pick None = refl
+      by-pick (Some j) = refl
   here σ m e lambda ty g l = refl
   here σ m e (foreign w) ty g l = refl
   here σ m e (apply n) ty g l = refl
@@ -172,10 +172,10 @@ tree (more t f) (suc j) = tree f j
 
 from_next : {n : ℕ} (t : Tree) (f : Forest n) (o : Option ℕ) → from (tree f) o ≡ from (tree (more t f)) (next o)
 unfolding from next tree
-from_next t f none = refl
-from_next t f (some j) = refl
+from_next t f None = refl
+from_next t f (Some j) = refl
 
-by-put : {n : ℕ} (t : Tree) (f : Forest n) (ps : List Param) (x : ℕ) (c : Bool) (o : Option Tree) → sub (take n (names ps)) (tree f) 0 x ≡ o → from (tree (more t f)) (cond c (some 0) (next (pick (take n (names ps)) 0 x))) ≡ cond c (some t) o
+by-put : {n : ℕ} (t : Tree) (f : Forest n) (ps : List Param) (x : ℕ) (c : Bool) (o : Option Tree) → sub (take n (names ps)) (tree f) 0 x ≡ o → from (tree (more t f)) (cond c (Some 0) (next (pick (take n (names ps)) 0 x))) ≡ cond c (Some t) o
 unfolding from tree
 by-put t f ps x true o e = refl
 by-put {n} t f ps x false o e = sym (from_next t f (pick (take n (names ps)) 0 x)) ∙ e
@@ -193,34 +193,34 @@ run_none form ys args [] = refl
 run_none form ys args (r ∷ rs) = refl
 
 -- only the arguments of names that are put count
-next-below : (o : Option ℕ) (n j : ℕ) → ((i : ℕ) → o ≡ some i → i < n) → next o ≡ some j → j < suc n
+next-below : (o : Option ℕ) (n j : ℕ) → ((i : ℕ) → o ≡ Some i → i < n) → next o ≡ Some j → j < suc n
 unfolding next
-next-below none n j h e = absurd (none-some j e)
-next-below (some i) n j h e = let q : suc i ≡ j = cc in omega (arith, h i refl)
+next-below None n j h e = absurd (none-some j e)
+next-below (Some i) n j h e = let q : suc i ≡ j = cc in omega (arith, h i refl)
 
-pub pick-below : (ys : List ℕ) (m x j : ℕ) → pick ys m x ≡ some j → j < length ys
+pub pick-below : (ys : List ℕ) (m x j : ℕ) → pick ys m x ≡ Some j → j < length ys
 unfolding pick
 pick-below [] m x j e = absurd (none-some j e)
 pick-below (y ∷ ys) m x j e = by_name (eqb x y) (low m) (λ i. pick-below ys (rest m) x i) e
   where
-    by_name : (c l : Bool) → ((i : ℕ) → pick ys (rest m) x ≡ some i → i < length ys) → cond c (cond l none (some 0)) (next (pick ys (rest m) x)) ≡ some j → j < suc (length ys)
+    by_name : (c l : Bool) → ((i : ℕ) → pick ys (rest m) x ≡ Some i → i < length ys) → cond c (cond l None (Some 0)) (next (pick ys (rest m) x)) ≡ Some j → j < suc (length ys)
     by_name true true k e = absurd (none-some j e)
     by_name true false k e = let q : 0 ≡ j = cc in omega arith
     by_name false l k e = next-below (pick ys (rest m) x) (length ys) j k e
 
-pub chosen-below : (ys : List ℕ) (h : Head) (m j : ℕ) → chosen ys h m ≡ some j → j < length ys
+pub chosen-below : (ys : List ℕ) (h : Head) (m j : ℕ) → chosen ys h m ≡ Some j → j < length ys
 unfolding chosen
 chosen-below ys h m j e = by_kind (eqb (code h) 5) e
   where
-    by_kind : (c : Bool) → cond c (pick ys m (word_of h)) none ≡ some j → j < length ys
+    by_kind : (c : Bool) → cond c (pick ys m (word_of h)) None ≡ Some j → j < length ys
     by_kind true e = pick-below ys m (word_of h) j e
     by_kind false e = absurd (none-some j e)
 
 module _ (form : ℕ → Form) (ys : List ℕ) (a b : ℕ → List (List ℕ)) (same : (j : ℕ) → j < length ys → a j ≡ b j) where
-  rows_same : (o : Option ℕ) (r : List ℕ) → ((j : ℕ) → o ≡ some j → j < length ys) → rows_for a o r ≡ rows_for b o r
+  rows_same : (o : Option ℕ) (r : List ℕ) → ((j : ℕ) → o ≡ Some j → j < length ys) → rows_for a o r ≡ rows_for b o r
   unfolding rows_for
-  rows_same none r h = refl
-  rows_same (some j) r h = same j (h j refl)
+  rows_same None r h = refl
+  rows_same (Some j) r h = same j (h j refl)
 
   pub run-same : (rs : List (List ℕ)) (ms : List ℕ) → run form ys a rs ms ≡ run form ys b rs ms
   unfolding run

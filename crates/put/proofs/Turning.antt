@@ -1,66 +1,52 @@
 -- One turn of each loop. Assumes nothing.
-use Prim.Native.Nat.{ℕ, zero, suc, ◌+◌, ◌*◌, ◌-◌, ◌≤◌, ◌<◌, ◌/◌, ◌%◌}
+use Prim.Native.Nat.{ℕ, zero, suc, ◌+◌, ◌*◌, ◌-◌, ◌≤◌, ◌<◌}
 use mathlib.Core.Path.{◌≡◌, refl, ap, sym, ◌∙◌}
 use mathlib.Core.Bool.{Bool, true, false, cond}
-use mathlib.Core.List.{List, [], ◌∷◌}
-use mathlib.Core.Option.{Option, none, some}
+use mathlib.Core.List.{List, [], ◌∷◌, ◌++◌}
+use Rattle.std.specs.Prelude.{Option, None, Some}
 use native.Mathlib.Omega.{arith}
 use native.Mathlib.Numerals.{add-one}
 use lib.Dec.{eqb}
-use lib.ListN.{length, get_or, set, drop, drop_of_length-le, length-drop, length-set}
-use lib.Seq.{drop-cons, get_or-set_same, get_or-set_other}
+use lib.ListN.{length, get_or, set, take, drop, replicate, drop_of_length-le, length-drop, length-set, length-replicate, get_or-append}
+use Rattle.std.proofs.lemmas.List.{get_or-append_right, get_or-replicate}
+use lib.Seq.{length-take-le, get_or-take, drop-cons, get_or-set_same, get_or-set_other}
 use borrow.Author.Tests.{eq-eqb, ne_eqb}
 use Rattle.meaning.specs.Types.{Form, params, find, low, rest}
 use Rattle.meaning.specs.Terms.{arity, code, word_of, head_from, Row}
 use Rattle.meaning.specs.Steps.{◌∨ᵇ◌}
 use Rattle.terms.specs.Masks.{bit}
 use Rattle.terms.proofs.ByNumber.{kind-told}
-use Rattle.put.specs.Put.{next, pick, told, mark, fan, at_place, binds, inner, after, chosen, below, first_row, end_row, Descends}
+use Rattle.put.specs.Put.{next, pick, mark, fan, at_place, binds, inner, after, chosen, below, first_row, end_row, Descends}
+use Rattle.std.specs.Prelude.{is_some}
 
 -- The place of a name --------------------------------------------------------------------------------------------
 
 unfoldable pub shift : ℕ → Option ℕ → Option ℕ
-shift k none = none
-shift k (some j) = some (k + j)
+shift k None = None
+shift k (Some j) = Some (k + j)
 
-pub shift_none : (k : ℕ) (o : Option ℕ) → o ≡ none → shift k o ≡ none
+pub shift_none : (k : ℕ) (o : Option ℕ) → o ≡ None → shift k o ≡ None
 unfolding shift
 shift_none k o e = rw e refl
 
 shift-next : (k : ℕ) (o : Option ℕ) → shift k (next o) ≡ shift (k + 1) o
 unfolding shift next
-shift-next k none = refl
-shift-next k (some j) = let e : k + suc j ≡ k + 1 + j = omega arith in ap some e
+shift-next k None = refl
+shift-next k (Some j) = let e : k + suc j ≡ k + 1 + j = omega arith in ap Some e
 
 pub shift_zero : (o : Option ℕ) → shift 0 o ≡ o
 unfolding shift
-shift_zero none = refl
-shift_zero (some j) = let e : 0 + j ≡ j = omega arith in ap some e
+shift_zero None = refl
+shift_zero (Some j) = let e : 0 + j ≡ j = omega arith in ap Some e
 
-module _ (ys : List ℕ) (k : ℕ) (h x y : ℕ) (i : k < length ys) (e : y ≡ get_or ys k 0) where
-  front : drop k ys ≡ y ∷ drop (k + 1) ys
-  front = rw (add-one k) (drop-cons ys k 0 i ∙ ap (λ (z : ℕ). z ∷ drop (suc k) ys) (sym e))
-
-  pub pick-on : (y ≡ x → ⊥) → shift k (pick (drop k ys) h x) ≡ shift (k + 1) (pick (drop (k + 1) ys) (h / 2) x)
-  unfolding pick rest
-  pick-on n = rw (front, ne_eqb x y (λ q. n (sym q))) (shift-next k (pick (drop (k + 1) ys) (h / 2) x))
-
-  pub pick-hidden : y ≡ x → h % 2 ≡ 1 → shift k (pick (drop k ys) h x) ≡ none
-  unfolding pick low
-  pick-hidden q p = shift_none k _ (rw (front, eq-eqb x y (sym q), eq-eqb (h % 2) 1 p) refl)
-
-  pub pick-here : y ≡ x → (h % 2 ≡ 1 → ⊥) → shift k (pick (drop k ys) h x) ≡ some k
-  unfolding pick low shift
-  pick-here q p = let z : k + 0 ≡ k = omega arith in rw (front, eq-eqb x y (sym q), ne_eqb (h % 2) 1 p) (ap some z)
-
-pub pick_end : (ys : List ℕ) (k h x : ℕ) → length ys ≤ k → shift k (pick (drop k ys) h x) ≡ none
+pub pick_end : (ys : List ℕ) (k h x : ℕ) → length ys ≤ k → shift k (pick (drop k ys) h x) ≡ None
 unfolding pick
 pick_end ys k h x i = shift_none k _ (rw (drop_of_length-le ys i) refl)
 
 -- What a row binds -----------------------------------------------------------------------------------------------
 
 module _ (form : ℕ → Form) (k n w ty y : ℕ) where
-  pub binds-fun : k ≡ 6 → binds form (head_from k n w) ty y ≡ told (find (params (form ty)) y)
+  pub binds-fun : k ≡ 6 → binds form (head_from k n w) ty y ≡ is_some (find (params (form ty)) y)
   unfolding binds
   binds-fun e = rw (kind-told k n w 6 (omega arith) (omega arith), eq-eqb k 6 e) refl
 
@@ -72,21 +58,6 @@ module _ (form : ℕ → Form) (k n w ty y : ℕ) where
   unfolding binds
   binds-none p q = rw (kind-told k n w 6 (omega arith) (omega arith), kind-told k n w 19 (omega arith) (omega arith), ne_eqb k 6 p, ne_eqb k 19 q) refl
 
-pub told-yes : (o : Option ℕ) (t : ℕ) → some t ≡ o → true ≡ told o
-unfolding told
-told-yes o t e = rw (sym e) refl
-
-pub told-no : (o : Option ℕ) → none ≡ o → false ≡ told o
-unfolding told
-told-no o e = rw (sym e) refl
-
-module _ (form : ℕ → Form) (k n w ty y x : ℕ) (e : k ≡ 6) (q : x ≡ y) where
-  pub binds-yes : (t : ℕ) → some t ≡ find (params (form ty)) x → true ≡ binds form (head_from k n w) ty y
-  binds-yes t p = told-yes _ t p ∙ ap (λ (z : ℕ). told (find (params (form ty)) z)) q ∙ sym (binds-fun form k n w ty y e)
-
-  pub binds-no : none ≡ find (params (form ty)) x → false ≡ binds form (head_from k n w) ty y
-  binds-no p = told-no _ p ∙ ap (λ (z : ℕ). told (find (params (form ty)) z)) q ∙ sym (binds-fun form k n w ty y e)
-
 -- The rows that are copied ---------------------------------------------------------------------------------------
 
 module _ (ys : List ℕ) (k n w m : ℕ) where
@@ -94,16 +65,16 @@ module _ (ys : List ℕ) (k n w m : ℕ) where
   unfolding chosen head_from code word_of
   chosen-var e = rw e refl
 
-  pub chosen_none : (k ≡ 5 → ⊥) → chosen ys (head_from k n w) m ≡ none
+  pub chosen_none : (k ≡ 5 → ⊥) → chosen ys (head_from k n w) m ≡ None
   unfolding chosen
   chosen_none e = rw (kind-told k n w 5 (omega arith) (omega arith), ne_eqb k 5 e) refl
 
 module _ (bounds : List ℕ) (i : ℕ) (o : Option ℕ) where
-  pub span-at : (j a b : ℕ) → o ≡ some j → a ≡ get_or bounds j 0 → b ≡ get_or bounds (j + 1) 0 → (a ≡ first_row bounds i o) × (b ≡ end_row bounds i o)
+  pub span-at : (j a b : ℕ) → o ≡ Some j → a ≡ get_or bounds j 0 → b ≡ get_or bounds (j + 1) 0 → (a ≡ first_row bounds i o) × (b ≡ end_row bounds i o)
   unfolding first_row end_row
   span-at j a b e p q = rw e (p, q)
 
-  pub span-own : o ≡ none → (i ≡ first_row bounds i o) × (i + 1 ≡ end_row bounds i o)
+  pub span-own : o ≡ None → (i ≡ first_row bounds i o) × (i + 1 ≡ end_row bounds i o)
   unfolding first_row end_row
   span-own e = rw e (refl, refl)
 
@@ -130,6 +101,27 @@ bit-rests : (j m : ℕ) → bit m j ≡ low (rests j m)
 unfolding bit rests
 bit-rests zero m = refl
 bit-rests (suc j) m = bit-rests j (rest m) ∙ ap low (rests-in j m)
+
+module _ (ys : List ℕ) (m k x y : ℕ) (i : k < length ys) (e : y ≡ get_or ys k 0) where
+  front : drop k ys ≡ y ∷ drop (k + 1) ys
+  front = rw (add-one k) (drop-cons ys k 0 i ∙ ap (λ (z : ℕ). z ∷ drop (suc k) ys) (sym e))
+
+  pub pick-on : (y ≡ x → ⊥) → shift (k + 1) (pick (drop (k + 1) ys) (rests (k + 1) m) x) ≡ shift k (pick (drop k ys) (rests k m) x)
+  unfolding pick rests
+  pick-on n =
+      let z : rests (k + 1) m ≡ rest (rests k m) = rw (add-one k) refl in
+      rw (z, front, ne_eqb x y (λ q. n (sym q))) (sym (shift-next k (pick (drop (k + 1) ys) (rest (rests k m)) x)))
+
+  pub pick-hidden : y ≡ x → bit m k ≡ true → shift k (pick (drop k ys) (rests k m) x) ≡ None
+  unfolding pick
+  pick-hidden q b = let l : low (rests k m) ≡ true = sym (bit-rests k m) ∙ b in shift_none k _ (rw (front, eq-eqb x y (sym q), l) refl)
+
+  pub pick-here : y ≡ x → bit m k ≡ false → shift k (pick (drop k ys) (rests k m) x) ≡ Some k
+  unfolding pick shift
+  pick-here q b =
+      let l : low (rests k m) ≡ false = sym (bit-rests k m) ∙ b in
+      let z : k + 0 ≡ k = omega arith in
+      rw (front, eq-eqb x y (sym q), l) (ap Some z)
 
 module _ (b : ℕ → Bool) (ys : List ℕ) (m : ℕ) where
   pub mark-start : (k : ℕ) → length ys ≤ k → 0 ≡ mark b (drop k ys) (rests k m)
@@ -189,23 +181,30 @@ unfolding fan
 fan-same zero f g ms e = refl
 fan-same (suc n) f g ms e = rw (e 0, fan-same n (λ i. f (suc i)) (λ i. g (suc i)) ms (λ i. e (suc i))) refl
 
-fan-more : (n k m : ℕ) (ms : List ℕ) → n ≡ suc k → fan n (λ i. m) ms ≡ m ∷ fan k (λ i. m) ms
-unfolding fan
-fan-more n k m ms e = rw e refl
+-- the first masks, and behind them some that are all the same
+module _ (masks : List ℕ) (top m a : ℕ) (R : List ℕ) (fits : top ≤ length masks) where
+  abbrev X : List ℕ
+  X = take top masks ++ (replicate a m ++ R)
 
--- the masks from entry owed - 1 on to before entry j are all the same
-abbrev pub Copies : List ℕ → ℕ → List ℕ → ℕ → Type 0
-Copies masks owed x j = (length x ≡ length masks) × (below x j ≡ fan (j - (owed - 1)) (λ i. get_or masks (owed - 1) 0) (below masks (owed - 1)))
+  below-front : (k : ℕ) → k ≤ top → below X k ≡ below masks k
+  unfolding below
+  below-front zero h = refl
+  below-front (suc k) h =
+      let f : get_or X k 0 ≡ get_or masks k 0 = get_or-append (take top masks) (replicate a m ++ R) 0 k (rw (length-take-le top masks fits) h) ∙ get_or-take top masks k 0 h in
+      rw (f, below-front k (omega arith)) refl
 
-module _ (masks : List ℕ) (owed : ℕ) (some-owed : 0 < owed) where
-  pub copies-start : Copies masks owed masks owed
-  unfolding fan
-  copies-start = let z : owed - (owed - 1) ≡ 1 = omega arith in (refl, below_on masks owed (owed - 1) (omega arith) ∙ rw z refl)
+  filled-at : (j : ℕ) → j < a → get_or X (top + j) 0 ≡ m
+  filled-at j h =
+      let z : top + j - top ≡ j = omega arith in
+      get_or-append_right (take top masks) (replicate a m ++ R) top (top + j) 0 (length-take-le top masks fits) (omega arith)
+      ∙ ap (λ (i : ℕ). get_or (replicate a m ++ R) i 0) z
+      ∙ get_or-append (replicate a m) R 0 j (rw length-replicate h)
+      ∙ get_or-replicate a j m 0 h
 
-  pub copies-more : (x : List ℕ) (j : ℕ) → owed ≤ j → j < length x → Copies masks owed x j → Copies masks owed (set x j (get_or masks (owed - 1) 0)) (j + 1)
-  copies-more x j h i (p, q) =
-      let m = get_or masks (owed - 1) 0 in
-      (length-set x j m ∙ p, below_top x (j + 1) j m (omega arith) i ∙ ap (λ (l : List ℕ). m ∷ l) q ∙ sym (fan-more (j + 1 - (owed - 1)) (j - (owed - 1)) m (below masks (owed - 1)) (omega arith)))
+  below-filled : (n : ℕ) → n ≤ a → below X (top + n) ≡ fan n (λ i. m) (below masks top)
+  unfolding below fan
+  below-filled zero h = let z : top + 0 ≡ top = omega arith in rw z (below-front top (omega arith))
+  below-filled (suc n) h = let z : top + suc n ≡ suc (top + n) = omega arith in rw (z, filled-at n h, below-filled n (omega arith)) refl
 
 pub let-two : (k n w : ℕ) → k ≡ 19 → arity (head_from k n w) ≡ 2
 unfolding head_from
@@ -218,17 +217,14 @@ module _ (form : ℕ → Form) (names : List ℕ) (k n w ty : ℕ) (masks : List
   abbrev m : ℕ
   m = get_or masks (owed - 1) 0
 
-  pub step-leaf : arity (head_from k n w) ≡ 0 → Descends form names R masks masks owed (owed - 1)
-  unfolding after fan
-  step-leaf e = record { long = refl; owes = omega (arith, e); trees = rw e refl }
-
-  pub step-fun : (v : ℕ) → k ≡ 6 → v ≡ mark (binds form (head_from k n w) ty) names m → Descends form names R masks (set masks (owed - 1) v) owed owed
+  pub step-fun : (v a : ℕ) → k ≡ 6 → v ≡ mark (binds form (head_from k n w) ty) names m → a ≡ arity (head_from k n w) → Descends form names R masks (set masks (owed - 1) v) owed (owed - 1 + a)
   unfolding after fan inner head_from code
-  step-fun v e q =
+  step-fun v a e q p =
+      let one : a ≡ 1 = rw e at p in
       record {
         long = length-set masks (owed - 1) v;
-        owes = rw e (omega arith);
-        trees = below_top masks owed (owed - 1) v (omega arith) (omega arith) ∙ rw (q, e) refl;
+        owes = ap (λ (x : ℕ). owed - 1 + x) p;
+        trees = below_top masks (owed - 1 + a) (owed - 1) v (omega arith) (omega arith) ∙ rw (q, e) refl;
       }
 
   pub step-let : (v a : ℕ) → k ≡ 19 → v ≡ mark (binds form (head_from k n w) ty) names m → a ≡ arity (head_from k n w) → owed - 1 + arity (head_from k n w) ≤ length masks
@@ -247,12 +243,15 @@ module _ (form : ℕ → Form) (names : List ℕ) (k n w ty : ℕ) (masks : List
   unfolding inner
   inner-other p q i = rw (kind-told k n w 6 (omega arith) (omega arith), kind-told k n w 19 (omega arith) (omega arith), ne_eqb k 6 p, ne_eqb k 19 q) refl
 
-  pub step_other : (x : List ℕ) (a j : ℕ) → (k ≡ 6 → ⊥) → (k ≡ 19 → ⊥) → a ≡ arity (head_from k n w) → j ≡ owed - 1 + a → Copies masks owed x j → Descends form names R masks x owed (owed - 1 + a)
+  pub step_other : (ys rest : List ℕ) (a l : ℕ) → (k ≡ 6 → ⊥) → (k ≡ 19 → ⊥) → a ≡ arity (head_from k n w) → length (take (owed - 1) masks ++ (ys ++ rest)) ≡ length masks → ys ≡ replicate l m → l ≡ a
+      → Descends form names R masks (take (owed - 1) masks ++ (ys ++ rest)) owed (owed - 1 + a)
   unfolding after
-  step_other x a j p q e g (l, c) =
-      let z : j - (owed - 1) ≡ a = omega arith in
+  step_other ys rest a l p q e g f z =
       record {
-        long = l;
+        long = g;
         owes = ap (λ (y : ℕ). owed - 1 + y) e;
-        trees = ap (below x) (sym g) ∙ c ∙ ap (λ (y : ℕ). fan y (λ i. m) (below masks (owed - 1))) (z ∙ e) ∙ fan-same (arity (head_from k n w)) (λ i. m) (inner form names (head_from k n w) ty m) (below masks (owed - 1)) (inner-other p q);
+        trees = ap (λ (y : List ℕ). below (take (owed - 1) masks ++ (y ++ rest)) (owed - 1 + a)) (f ∙ ap (λ (y : ℕ). replicate y m) z)
+            ∙ below-filled masks (owed - 1) m a rest (omega arith) a (omega arith)
+            ∙ ap (λ (y : ℕ). fan y (λ i. m) (below masks (owed - 1))) e
+            ∙ fan-same (arity (head_from k n w)) (λ i. m) (inner form names (head_from k n w) ty m) (below masks (owed - 1)) (inner-other p q);
       }

@@ -1,6 +1,6 @@
 -- Names put at once, row by row: which names are hidden in each tree still owed, and the rows that are written. Assumes nothing.
 use Rattle.std.specs.Prelude.{ℕ, zero, suc, ◌+◌, ◌*◌, ◌-◌, ◌≤◌, ◌<◌, min, max, ◌≡◌, Bool, true, false, cond, List, [], ◌∷◌, ◌++◌, map, eqb, length, get_or, take, drop}
-use Rattle.std.proofs.Math.Option.{Option, none, some}
+use Rattle.std.specs.Prelude.{Option, None, Some, is_some}
 use Rattle.meaning.specs.Types.{Form, Param, params, find, low, rest}
 use Rattle.meaning.specs.Terms.{Head, arity, code, word_of, Row, row_of, raw, size, sizes, tree_at, grove}
 use Rattle.meaning.specs.Steps.{◌∨ᵇ◌}
@@ -10,21 +10,16 @@ use Rattle.put.specs.declared.Range.{Range}
 use Rattle.put.specs.declared.Scan.{Scan}
 use Rattle.put.specs.declared.Turn.{Turn}
 use Rattle.put.specs.declared.Turn.TheVariants.{Stands, Whole, Puts, Mixed}
-use Rattle.put.specs.declared.Pass.{Pass}
-use Rattle.put.specs.declared.Pass.TheVariants.{Made, Unknown}
+use Rattle.put.specs.declared.Made.{Made}
 
 unfoldable pub next : Option ℕ → Option ℕ
-next none = none
-next (some j) = some (suc j)
+next None = None
+next (Some j) = Some (suc j)
 
 -- the place of a name among those that are put, where those with a one in the mask are hidden (bit 0: the first)
 unfoldable pub pick : List ℕ → ℕ → ℕ → Option ℕ
-pick [] m x = none
-pick (y ∷ ys) m x = cond (eqb x y) (cond (low m) none (some 0)) (next (pick ys (rest m) x))
-
-unfoldable pub told : Option ℕ → Bool
-told none = false
-told (some t) = true
+pick [] m x = None
+pick (y ∷ ys) m x = cond (eqb x y) (cond (low m) None (Some 0)) (next (pick ys (rest m) x))
 
 -- the mask where a binder's names are hidden too
 unfoldable pub mark : (ℕ → Bool) → List ℕ → ℕ → ℕ
@@ -42,16 +37,16 @@ at_place (suc i) a b = b
 
 -- which names a row binds in its last tree: "A native function binds its type's names in its body; let binds its name .. in its body only"
 unfoldable pub binds : (ℕ → Form) → Head → ℕ → ℕ → Bool
-binds form h ty y = cond (eqb (code h) 6) (told (find (params (form ty)) y)) (cond (eqb (code h) 19) (eqb y (word_of h)) false)
+binds form h ty y = cond (eqb (code h) 6) (is_some (find (params (form ty)) y)) (cond (eqb (code h) 19) (eqb y (word_of h)) false)
 
 -- what is written for a row: itself, or an argument's rows
 unfoldable pub rows_for : (ℕ → List (List ℕ)) → Option ℕ → List ℕ → List (List ℕ)
-rows_for args none r = r ∷ []
-rows_for args (some j) r = args j
+rows_for args None r = r ∷ []
+rows_for args (Some j) r = args j
 
 -- which argument is put at a row: at a variable whose name is put and not hidden
 unfoldable pub chosen : List ℕ → Head → ℕ → Option ℕ
-chosen names h m = cond (eqb (code h) 5) (pick names m (word_of h)) none
+chosen names h m = cond (eqb (code h) 5) (pick names m (word_of h)) None
 
 module _ (form : ℕ → Form) (names : List ℕ) where
   -- the mask of the i-th tree of a row that is met under mask m
@@ -96,12 +91,12 @@ put_rows form l body names bounds = run form names (arg_rows l bounds) (drop bod
 
 -- the rows that are copied for row i, from and to
 unfoldable pub first_row : List ℕ → ℕ → Option ℕ → ℕ
-first_row bounds i none = i
-first_row bounds i (some j) = get_or bounds j 0
+first_row bounds i None = i
+first_row bounds i (Some j) = get_or bounds j 0
 
 unfoldable pub end_row : List ℕ → ℕ → Option ℕ → ℕ
-end_row bounds i none = i + 1
-end_row bounds i (some j) = get_or bounds (j + 1) 0
+end_row bounds i None = i + 1
+end_row bounds i (Some j) = get_or bounds (j + 1) 0
 
 -- behind row r the masks are those of the trees owed
 pub record Descends (form : ℕ → Form) (names : List ℕ) (r : Row) (masks masks' : List ℕ) (owed owed' : ℕ) : Type 0 where
@@ -121,7 +116,7 @@ pub record Ready (l : List (List ℕ)) (body : ℕ) (names bounds : List ℕ) : 
 
 -- each of the names is one of a function's
 abbrev pub Among : List ℕ → List Param → Type 0
-Among names ps = (j : ℕ) → j < length names → told (find ps (get_or names j 0)) ≡ true
+Among names ps = (j : ℕ) → j < length names → is_some (find ps (get_or names j 0)) ≡ true
 
 -- a range with one name more
 pub record Widens (x z : Range) (y : ℕ) : Type 0 where
@@ -139,34 +134,37 @@ pub record Owing (l : List (List ℕ)) (at : Scan) : Type 0 where
   pub few : length l ≤ 2048
   pub within : at.i + sizes (grove (map row_of l) at.i at.owed) ≤ length l
 
--- row i is no function, and its word is not in a range: it is none of the names there, and hides none
-pub record Clear (l : List (List ℕ)) (x : Range) (i : ℕ) (r : Line) : Type 0 where
-  pub there : get_or l i [] ≡ numbers r
+-- a row is no function, and its word is not in a range: it is none of the names there, and hides none
+pub record Clear (x : Range) (r : Line) : Type 0 where
   pub other : r.kind ≡ 6 → ⊥
   pub out : x.low ≤ r.word → r.word ≤ x.high → ⊥
 
--- such rows are passed, from row i on, where some trees are owed, to before another row, where others are
-pub data Skips (l : List (List ℕ)) (x : Range) (i owed : ℕ) : ℕ → ℕ → Type 0 where
-  still : Skips l x i owed i owed
-  past : {j n : ℕ} → Skips l x i owed j n → 0 < n → (r : Line) → Clear l x j r → Skips l x i owed (j + 1) (n - 1 + arity (row_of (numbers r)).head)
+-- rows of which this holds are passed, from row i on, where some trees are owed, to before another row, where others are
+pub data Skips (P : Line → Type 0) (l : List (List ℕ)) (i owed : ℕ) : ℕ → ℕ → Type 0 where
+  still : Skips P l i owed i owed
+  past : {j n : ℕ} → Skips P l i owed j n → 0 < n → (r : Line) → get_or l j [] ≡ numbers r → P r → Skips P l i owed (j + 1) (n - 1 + arity (row_of (numbers r)).head)
 
 -- under this mask no name is put
 abbrev pub Shut : List ℕ → ℕ → Type 0
-Shut names m = (x : ℕ) → pick names m x ≡ none
+Shut names m = (x : ℕ) → pick names m x ≡ None
 
 -- what a pass does at a row that is met under no mask
 unfoldable pub Turns : (ℕ → Form) → List ℕ → List ℕ → Row → Turn → Type 0
-Turns form names bounds r Stands = Bare form names r × (chosen names r.head 0 ≡ none)
-Turns form names bounds r Whole = (chosen names r.head 0 ≡ none) × ((i : ℕ) → Shut names (inner form names r.head r.type 0 i))
-Turns form names bounds r (Puts f t) = Bare form names r × ((j : ℕ) × (chosen names r.head 0 ≡ some j) × (f ≡ get_or bounds j 0) × (t ≡ get_or bounds (j + 1) 0))
+Turns form names bounds r Stands = Bare form names r × (chosen names r.head 0 ≡ None)
+Turns form names bounds r Whole = (chosen names r.head 0 ≡ None) × ((i : ℕ) → Shut names (inner form names r.head r.type 0 i))
+Turns form names bounds r (Puts s) = Bare form names r × ((j : ℕ) × (chosen names r.head 0 ≡ Some j) × (s.from ≡ get_or bounds j 0) × (s.to ≡ get_or bounds (j + 1) 0))
 Turns form names bounds r Mixed = Unit {0}
+
+-- a row stands under no mask, whatever the types
+abbrev pub StandsAlways : List ℕ → List ℕ → Line → Type 0
+StandsAlways names bounds r = (form : ℕ → Form) → Turns form names bounds (row_of (numbers r)) Stands
 
 -- each row is as its head is written
 abbrev pub Exact : List (List ℕ) → Type 0
 Exact l = map raw (map row_of l) ≡ l
 
--- what a pass made at the front of a table: the row behind the body, and how many rows
-unfoldable pub Passes : (ℕ → Form) → List (List ℕ) → ℕ → List ℕ → List ℕ → List (List ℕ) → Pass → Type 0
-Passes form l body names bounds to Unknown = Unit {0}
-Passes form l body names bounds to (Made e n) =
-    (e ≡ body + size (tree_at (map row_of l) body)) × (n ≡ length (put_rows form l body names bounds)) × (take n to ≡ put_rows form l body names bounds)
+-- what a pass made at the front of a table
+pub record Passes (form : ℕ → Form) (l : List (List ℕ)) (body : ℕ) (names bounds : List ℕ) (to : List (List ℕ)) (m : Made) : Type 0 where
+  pub behind : m.end ≡ body + size (tree_at (map row_of l) body)
+  pub count : m.rows ≡ length (put_rows form l body names bounds)
+  pub front : take m.rows to ≡ put_rows form l body names bounds

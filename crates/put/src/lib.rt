@@ -1,17 +1,25 @@
 // Names put at once: a body's rows are copied, and for a name that is put and not hidden its argument's rows.
 #![tactic(auto)]
 
-ghost use Rattle.std.specs.Prelude.{◌≡◌, [], ◌∷◌, ◌++◌, ℕ, ◌+◌, ◌*◌, ◌-◌, ◌≤◌, ◌<◌, true, false, length, get_or, set, take, drop};
-ghost use Rattle.layout.specs.Rows.{numbers, found, type_table, row_table};
-ghost use Rattle.layout.specs.declared.Found.TheVariants.{At};
+mod puts;
+pub mod sinks;
+
+ghost use Rattle.std.specs.Prelude.{IfOk, IfSome, IsSome, ◌≡◌, [], ◌∷◌, ◌++◌, ℕ, ◌+◌, ◌*◌, ◌-◌, ◌≤◌, ◌<◌, true, false, length, get_or, set, take, drop, is_some};
+ghost use Rattle.layout.specs.Rows.{numbers, type_table, row_table};
+ghost use Rattle.layout.specs.declared.Row.{Row as Line};
 ghost use Rattle.meaning.specs.Types.{form_of, find, params, names as names_of};
 ghost use Rattle.meaning.specs.Terms.{arity, row_of};
 ghost use Rattle.meaning.specs.Steps.{◌∨ᵇ◌};
 ghost use Rattle.terms.specs.Masks.{bit};
-ghost use Rattle.put.specs.Put.{standing, pick, chosen, told, binds, mark, Bare, first_row, end_row, Descends, Ready, put_rows, Among, Widens, Within, Owing, Skips, Turns, Exact, Passes};
+ghost use Rattle.put.specs.Sinks.{Taken};
+ghost use Rattle.put.specs.declared.Turn.TheVariants.{Whole};
+ghost use Rattle.put.specs.Put.{standing, pick, chosen, binds, mark, Bare, first_row, end_row, Descends, Ready, put_rows, Among, Widens, Within, Owing, Clear, Skips, Turns, Exact, Passes};
 
-use layout::{Found, Row};
-use rules::names::Named;
+use layout::Row;
+use layout::kinds::Kind;
+use layout::views::Types;
+use puts::{Many, One, Puts, Rowwise};
+use sinks::{Count, Sink, Table};
 
 // The rows that are copied for a row: from and to.
 #[derive(Clone, Copy)]
@@ -21,24 +29,42 @@ pub struct Span {
 }
 
 // The place of the name x among those that are put, if the mask does not hide it.
-fn place_of(names: &[u16], m: u8, x: u32) -> Found
+fn place_of(names: &[u16], m: u8, x: u32) -> Option<usize>
     requires { length names.now ≤ 8 }
-    ensures { found result ≡ pick names.now m x }
+    ensures { result ≡ pick names.now m x }
 {
-    let n = names.len();
-    let mut h = m;
-    let mut k: usize = 0;
-    while k < n {
+    for k in 0..names.len() {
         if layout::word_of(names[k]) == x {
-            if h % 2 == 1 {
-                return Found::Nothing;
+            if terms::masks::mask_bit(m, k) {
+                return None;
             }
-            return Found::At(k as u32);
+            return Some(k);
         }
-        h = h / 2;
-        k += 1;
     }
-    Found::Nothing
+    None
+}
+
+// Which name is put at a row: at a variable whose name is put and not hidden.
+fn chosen(names: &[u16], m: u8, r: Row) -> Option<usize>
+    requires { length names.now ≤ 8 }
+    ensures { result ≡ chosen names.now (row_of (numbers r)).head m }
+{
+    if r.is(Kind::Variable) {
+        place_of(names, m, r.word)
+    } else {
+        None
+    }
+}
+
+// The rows that are put for the name at place j.
+fn argument(bounds: &[u16], j: usize) -> Span
+    requires { j + 1 < length bounds.now }
+    ensures { (result.from ≡ get_or bounds.now j 0) × (result.to ≡ get_or bounds.now (j + 1) 0) }
+{
+    Span {
+        from: layout::wide(bounds[j]),
+        to: layout::wide(bounds[j + 1]),
+    }
 }
 
 // The rows that are copied for row i, met under a mask.
@@ -46,120 +72,68 @@ fn spot(names: &[u16], bounds: &[u16], m: u8, r: Row, i: usize) -> Span
     requires { (length names.now ≤ 8) × (length names.now < length bounds.now) × (i < 4096) }
     ensures { (result.from ≡ first_row bounds.now i (chosen names.now (row_of (numbers r)).head m)) × (result.to ≡ end_row bounds.now i (chosen names.now (row_of (numbers r)).head m)) }
 {
-    let k = r.kind;
-    if k == 5 {
-        let f = place_of(names, m, r.word);
-        match f {
-            Found::At(j) => {
-                let p = j as usize;
-                return Span {
-                    from: layout::wide(bounds[p]),
-                    to: layout::wide(bounds[p + 1]),
-                };
-            }
-            Found::Nothing => {
-                return Span { from: i, to: i + 1 };
-            }
-        }
+    match chosen(names, m, r) {
+        Some(j) => argument(bounds, j),
+        None => Span { from: i, to: i + 1 },
     }
-    Span { from: i, to: i + 1 }
-}
-
-// Whether the rows that are copied for row i are row i.
-fn stays(s: Span, i: usize) -> bool
-    requires { i < 4096 }
-    ensures { result ≡ true → (s.from ≡ i) × (s.to ≡ i + 1) }
-{
-    if s.from == i {
-        return s.to == i + 1;
-    }
-    false
 }
 
 // Whether a function of type t binds the name x.
-fn has_name(types: &[u8], t: u16, x: u32) -> bool
-    ensures { result ≡ told (find (params (form_of (type_table types.now) t)) x) }
+fn has_name(types: &Types, t: u16, x: u32) -> bool
+    ensures { result ≡ is_some (find (params (form_of types.now t)) x) }
 {
-    let f = rules::names::param_named(types, t, x);
-    match f {
-        Named::Has(u) => {
-            return true;
-        }
-        Named::Nothing => {
-            return false;
-        }
-    }
+    rules::names::param_named(types, t, x).is_some()
 }
 
 // Whether a row binds the name y in its last tree.
-fn binds_name(types: &[u8], r: Row, y: u16) -> bool
-    ensures { result ≡ binds (form_of (type_table types.now)) (row_of (numbers r)).head (row_of (numbers r)).type y }
+fn binds_name(types: &Types, r: Row, y: u16) -> bool
+    ensures { result ≡ binds (form_of types.now) (row_of (numbers r)).head (row_of (numbers r)).type y }
 {
-    let k = r.kind;
     let x = layout::word_of(y);
-    if k == 6 {
-        return has_name(types, r.ty, x);
+    match r.kind() {
+        Some(Kind::Native) => has_name(types, r.ty, x),
+        Some(Kind::Let) => x == r.word,
+        _ => false,
     }
-    if k == 19 {
-        return x == r.word;
-    }
-    false
 }
 
 // Whether the k-th name, y, is hidden in a row's last tree.
-fn hides(types: &[u8], r: Row, y: u16, m: u8, k: usize) -> bool
-    ensures { result ≡ (bit m k ∨ᵇ binds (form_of (type_table types.now)) (row_of (numbers r)).head (row_of (numbers r)).type y) }
+fn hides(types: &Types, r: Row, y: u16, m: u8, k: usize) -> bool
+    ensures { result ≡ (bit m k ∨ᵇ binds (form_of types.now) (row_of (numbers r)).head (row_of (numbers r)).type y) }
 {
-    if terms::masks::mask_bit(m, k) {
-        return true;
-    }
-    binds_name(types, r, y)
+    terms::masks::mask_bit(m, k) || binds_name(types, r, y)
 }
 
 // The mask of a binder's last tree.
-fn marked(types: &[u8], names: &[u16], r: Row, m: u8) -> u8
+fn marked(types: &Types, names: &[u16], r: Row, m: u8) -> u8
     requires { length names.now ≤ 8 }
-    ensures { result ≡ mark (binds (form_of (type_table types.now)) (row_of (numbers r)).head (row_of (numbers r)).type) names.now m }
+    ensures { result ≡ mark (binds (form_of types.now) (row_of (numbers r)).head (row_of (numbers r)).type) names.now m }
 {
     let mut x: u8 = 0;
-    let mut k = names.len();
-    while 0 < k {
-        let j = k - 1;
+    for k in (0..names.len()).rev() {
         x = 2 * x;
-        if hides(types, r, names[j], m, j) {
+        if hides(types, r, names[k], m, k) {
             x += 1;
         }
-        k = j;
     }
     x
 }
 
 // Behind a row: its trees are owed, each with its mask. The trees owed are counted.
-fn descend(types: &[u8], names: &[u16], r: Row, masks: &mut [u8], owed: usize) -> usize
+fn descend(types: &Types, names: &[u16], r: Row, masks: &mut [u8], owed: usize) -> usize
     requires { (length names.now ≤ 8) × (0 < owed) × (owed ≤ length masks.old) × (owed - 1 + arity (row_of (numbers r)).head ≤ length masks.old) }
-    ensures { Descends (form_of (type_table types.now)) names.now (row_of (numbers r)) masks.old masks.new owed result }
+    ensures { Descends (form_of types.now) names.now (row_of (numbers r)) masks.old masks.new owed result }
 {
     let top = owed - 1;
     let m = masks[top];
-    let a = terms::children(r);
-    if a == 0 {
-        return top;
-    }
-    let k = r.kind;
-    if k == 6 {
-        masks[top] = marked(types, names, r, m);
-        return owed;
-    }
-    let n = top + a;
-    if k == 19 {
-        masks[top] = marked(types, names, r, m);
-        masks[owed] = m;
-        return n;
-    }
-    let mut j = owed;
-    while j < n {
-        masks[j] = m;
-        j += 1;
+    let n = top + terms::children(r);
+    match r.kind() {
+        Some(Kind::Native) => masks[top] = marked(types, names, r, m),
+        Some(Kind::Let) => {
+            masks[top] = marked(types, names, r, m);
+            masks[owed] = m;
+        }
+        _ => masks[top..n].fill(m),
     }
     n
 }
@@ -167,218 +141,158 @@ fn descend(types: &[u8], names: &[u16], r: Row, masks: &mut [u8], owed: usize) -
 // Whether x is one of the names.
 fn is_name(names: &[u16], x: u32) -> bool
     requires { length names.now ≤ 8 }
-    ensures { result ≡ told (pick names.now 0 x) }
+    ensures { result ≡ is_some (pick names.now 0 x) }
 {
-    let f = place_of(names, 0, x);
-    match f {
-        Found::At(j) => {
-            return true;
-        }
-        Found::Nothing => {
-            return false;
-        }
-    }
+    place_of(names, 0, x).is_some()
 }
 
 // Whether a row hides one of the names in its last tree.
-fn hides_some(types: &[u8], names: &[u16], r: Row) -> bool
+fn hides_some(types: &Types, names: &[u16], r: Row) -> bool
     requires { length names.now ≤ 8 }
-    ensures { result ≡ false → Bare (form_of (type_table types.now)) names.now (row_of (numbers r)) }
+    ensures { result ≡ false → Bare (form_of types.now) names.now (row_of (numbers r)) }
 {
-    let k = r.kind;
-    if k == 6 {
-        return marked(types, names, r, 0) != 0;
+    match r.kind() {
+        Some(Kind::Native) => marked(types, names, r, 0) != 0,
+        Some(Kind::Let) => is_name(names, r.word),
+        _ => false,
     }
-    if k == 19 {
-        return is_name(names, r.word);
-    }
-    false
 }
 
-// How many rows the body at a row has with the arguments put, by a mask for each tree owed.
-fn count_masked(types: &[u8], rows: &[u8], body: usize, names: &[u16], bounds: &[u16]) -> usize
-    requires { Ready (row_table rows.now) body names.now bounds.now }
-    ensures { result ≡ length (put_rows (form_of (type_table types.now)) (row_table rows.now) body names.now bounds.now) }
+// The rows of the body at a row with the arguments put, by a mask for each tree owed, go to a sink; the row behind the body. Nothing where the sink has
+// no room.
+fn pass_masked<S: Sink>(
+    types: &Types,
+    rows: &[u8],
+    body: usize,
+    names: &[u16],
+    bounds: &[u16],
+    sink: &mut S,
+) -> Option<usize>
+    requires ready { Ready (row_table rows.now) body names.now bounds.now }
+    requires empty { S.holds sink.old [] }
+    ensures made { IfSome result (λ e. Taken S.holds S.room S.loan (form_of types.now) (row_table rows.now) body names.now bounds.now sink.old sink.new e) }
+    ensures room { length (put_rows (form_of types.now) (row_table rows.now) body names.now bounds.now) ≤ S.room sink.old → IsSome result }
 {
     let mut masks = [0u8; 2048];
     let mut owed: usize = 1;
     let mut i = body;
-    let mut w: usize = 0;
+    // A while: where the trees owed end is known only when their rows are read.
     while 0 < owed {
         let r = layout::row_at(rows, i);
         let s = spot(names, bounds, masks[owed - 1], r, i);
         owed = descend(types, names, r, &mut masks, owed);
-        w += s.to - s.from;
+        if !sink.take(rows, s) {
+            return None;
+        }
         i += 1;
     }
-    w
+    Some(i)
 }
 
-// The same where no row hides a name, with no mask; else nothing.
-fn count_bare(types: &[u8], rows: &[u8], body: usize, names: &[u16], bounds: &[u16]) -> Found
+// How many rows they are.
+fn count_masked(types: &Types, rows: &[u8], body: usize, names: &[u16], bounds: &[u16]) -> usize
     requires { Ready (row_table rows.now) body names.now bounds.now }
-    ensures { (n : ℕ) → result ≡ At n → n ≡ length (put_rows (form_of (type_table types.now)) (row_table rows.now) body names.now bounds.now) }
+    ensures { result ≡ length (put_rows (form_of types.now) (row_table rows.now) body names.now bounds.now) }
 {
-    let mut owed: usize = 1;
-    let mut i = body;
-    let mut w: usize = 0;
-    while 0 < owed {
-        let r = layout::row_at(rows, i);
-        if hides_some(types, names, r) {
-            return Found::Nothing;
-        }
-        let s = spot(names, bounds, 0, r, i);
-        owed = owed - 1 + terms::children(r);
-        w += s.to - s.from;
-        i += 1;
-    }
-    Found::At(w as u32)
+    let mut count = Count { rows: 0 };
+    pass_masked(types, rows, body, names, bounds, &mut count);
+    count.rows
 }
 
 // How many rows the body at a row has with the arguments put.
-pub fn count_put(types: &[u8], rows: &[u8], body: usize, names: &[u16], bounds: &[u16]) -> usize
+pub fn count_put(types: &Types, rows: &[u8], body: usize, names: &[u16], bounds: &[u16]) -> usize
     requires { Ready (row_table rows.now) body names.now bounds.now }
-    ensures { result ≡ length (put_rows (form_of (type_table types.now)) (row_table rows.now) body names.now bounds.now) }
+    ensures { result ≡ length (put_rows (form_of types.now) (row_table rows.now) body names.now bounds.now) }
 {
-    let f = count_bare(types, rows, body, names, bounds);
-    match f {
-        Found::At(n) => {
-            return n as usize;
-        }
-        Found::Nothing => {
-            return count_masked(types, rows, body, names, bounds);
-        }
+    let rowwise = Rowwise { names, bounds };
+    let mut count = Count { rows: 0 };
+    match pass_bare(types, rows, body, &rowwise, &mut count) {
+        Ok(_) => count.rows,
+        Err(_) => count_masked(types, rows, body, names, bounds),
     }
 }
 
 // The rows of the body at a row with the arguments put, by a mask for each tree owed, into a table of just as many.
 fn write_masked(
-    types: &[u8],
+    types: &Types,
     rows: &[u8],
     body: usize,
     names: &[u16],
     bounds: &[u16],
     to: &mut [u8],
 )
-    requires { Ready (row_table rows.now) body names.now bounds.now × (length to.old ≡ 8 * length (put_rows (form_of (type_table types.now)) (row_table rows.now) body names.now bounds.now)) }
-    ensures { row_table to.new ≡ put_rows (form_of (type_table types.now)) (row_table rows.now) body names.now bounds.now }
+    requires { Ready (row_table rows.now) body names.now bounds.now × (length to.old ≡ 8 * length (put_rows (form_of types.now) (row_table rows.now) body names.now bounds.now)) }
+    ensures { row_table to.new ≡ put_rows (form_of types.now) (row_table rows.now) body names.now bounds.now }
 {
-    let mut masks = [0u8; 2048];
-    let mut owed: usize = 1;
-    let mut i = body;
-    let mut w: usize = 0;
-    while 0 < owed {
-        let r = layout::row_at(rows, i);
-        let s = spot(names, bounds, masks[owed - 1], r, i);
-        owed = descend(types, names, r, &mut masks, owed);
-        let n = s.to - s.from;
-        copy_rows(to, w, rows, s.from, n);
-        w += n;
-        i += 1;
-    }
+    let mut table = Table { to, rows: 0 };
+    pass_masked(types, rows, body, names, bounds, &mut table);
 }
 
-// The rows of one span of a table and of another go to a table, from row w on.
-fn copy_both(to: &mut [u8], w: usize, rows: &[u8], a: Span, b: Span)
-    requires { (a.from ≤ a.to) × (a.to ≤ length (row_table rows.now)) × (b.from ≤ b.to) × (b.to ≤ length (row_table rows.now)) × (length rows.now ≤ 32768) × (w + ((a.to - a.from) + (b.to - b.from)) ≤ length (row_table to.old)) }
-    ensures { row_table to.new ≡ take w (row_table to.old) ++ ((standing (row_table rows.now) a.from a.to ++ standing (row_table rows.now) b.from b.to) ++ drop (w + ((a.to - a.from) + (b.to - b.from))) (row_table to.old)) }
-{
-    let k = a.to - a.from;
-    let n = b.to - b.from;
-    copy_rows(to, w, rows, a.from, k);
-    copy_rows(to, w + k, rows, b.from, n);
-}
-
-// The same where no row hides a name, with no mask: rows that stand side by side are copied at once. Whether it is so.
+// The same with no mask, where no row hides a name. Whether it is so.
 fn write_bare(
-    types: &[u8],
+    types: &Types,
     rows: &[u8],
     body: usize,
     names: &[u16],
     bounds: &[u16],
     to: &mut [u8],
 ) -> bool
-    requires { Ready (row_table rows.now) body names.now bounds.now × (length to.old ≡ 8 * length (put_rows (form_of (type_table types.now)) (row_table rows.now) body names.now bounds.now)) }
-    ensures { result ≡ true → row_table to.new ≡ put_rows (form_of (type_table types.now)) (row_table rows.now) body names.now bounds.now }
+    requires { Ready (row_table rows.now) body names.now bounds.now × (length to.old ≡ 8 * length (put_rows (form_of types.now) (row_table rows.now) body names.now bounds.now)) }
+    ensures { result ≡ true → row_table to.new ≡ put_rows (form_of types.now) (row_table rows.now) body names.now bounds.now }
 {
-    let mut owed: usize = 1;
-    let mut i = body;
-    let mut from = body;
-    let mut w: usize = 0;
-    while 0 < owed {
-        let r = layout::row_at(rows, i);
-        if hides_some(types, names, r) {
-            return false;
-        }
-        owed = owed - 1 + terms::children(r);
-        let s = spot(names, bounds, 0, r, i);
-        if stays(s, i) {
-            i += 1;
-        } else {
-            copy_both(to, w, rows, Span { from: from, to: i }, s);
-            w += (i - from) + (s.to - s.from);
-            i += 1;
-            from = i;
-        }
-    }
-    copy_rows(to, w, rows, from, i - from);
-    true
+    let rowwise = Rowwise { names, bounds };
+    let mut table = Table { to, rows: 0 };
+    pass_bare(types, rows, body, &rowwise, &mut table).is_ok()
 }
 
 // The rows of the body at a row with the arguments put, into a table of just as many.
 pub fn write_put(
-    types: &[u8],
+    types: &Types,
     rows: &[u8],
     body: usize,
     names: &[u16],
     bounds: &[u16],
     to: &mut [u8],
 )
-    requires { Ready (row_table rows.now) body names.now bounds.now × (length to.old ≡ 8 * length (put_rows (form_of (type_table types.now)) (row_table rows.now) body names.now bounds.now)) }
-    ensures { row_table to.new ≡ put_rows (form_of (type_table types.now)) (row_table rows.now) body names.now bounds.now }
+    requires { Ready (row_table rows.now) body names.now bounds.now × (length to.old ≡ 8 * length (put_rows (form_of types.now) (row_table rows.now) body names.now bounds.now)) }
+    ensures { row_table to.new ≡ put_rows (form_of types.now) (row_table rows.now) body names.now bounds.now }
 {
-    if write_bare(types, rows, body, names, bounds, to) {
-        return;
+    if !write_bare(types, rows, body, names, bounds, to) {
+        write_masked(types, rows, body, names, bounds, to);
     }
-    write_masked(types, rows, body, names, bounds, to);
 }
 
 // How many names a function of type t binds.
-pub fn param_count(types: &[u8], t: u16) -> usize
-    ensures { (result ≡ length (params (form_of (type_table types.now) t))) × (result ≤ 8) }
+#[tactic(auto, using(rules::proofs::Finding::names_found))]
+pub fn param_count(types: &Types, t: u16) -> usize
+    ensures { (result ≡ length (params (form_of types.now t))) × (result ≤ 8) }
 {
-    let f = rules::forms::form_of(types, t);
-    if f < 6 {
-        return 0;
+    if types.is_function(t) {
+        types.parts_of(t)
+    } else {
+        0
     }
-    if 7 < f {
-        return 0;
-    }
-    rules::forms::parts_of(types, t)
 }
 
 // The k-th of them, counted from 0.
-pub fn param_name(types: &[u8], t: u16, k: usize) -> u16
-    requires { k < length (params (form_of (type_table types.now) t)) }
-    ensures { result ≡ get_or (names_of (params (form_of (type_table types.now) t))) k 0 }
+pub fn param_name(types: &Types, t: u16, k: usize) -> u16
+    requires { k < length (params (form_of types.now t)) }
+    ensures { result ≡ get_or (names_of (params (form_of types.now t))) k 0 }
 {
-    rules::forms::name_of(types, t, k)
+    types.name_of(t, k)
 }
 
 // Whether a function of type t binds all the names, each at its place.
-fn binds_all(types: &[u8], names: &[u16], t: u16) -> bool
-    ensures { result ≡ true → Among names.now (params (form_of (type_table types.now) t)) }
+fn binds_all(types: &Types, names: &[u16], t: u16) -> bool
+    ensures { result ≡ true → Among names.now (params (form_of types.now t)) }
 {
-    let n = names.len();
-    if param_count(types, t) < n {
+    if param_count(types, t) < names.len() {
         return false;
     }
-    let mut k: usize = 0;
-    while k < n {
+    for k in 0..names.len() {
         if param_name(types, t, k) != names[k] {
             return false;
         }
-        k += 1;
     }
     true
 }
@@ -390,38 +304,29 @@ pub struct Range {
     pub high: usize,
 }
 
-// A range with one name more.
-fn widen(x: Range, y: usize) -> Range
-    ensures { Widens x result y }
-{
-    let low = x.low;
-    let high = x.high;
-    if y < low {
-        if high < y {
-            return Range { low: y, high: y };
+impl Range {
+    // The range with one name more.
+    fn with(self, y: usize) -> Self
+        ensures { Widens self result y }
+    {
+        Range {
+            low: self.low.min(y),
+            high: self.high.max(y),
         }
-        return Range { low: y, high: high };
     }
-    if high < y {
-        return Range { low: low, high: y };
-    }
-    x
 }
 
 // The range that the names are in.
 fn range_of(names: &[u16]) -> Range
     ensures { Within names.now result }
 {
-    let n = names.len();
-    if n == 0 {
+    if names.is_empty() {
         return Range { low: 0, high: 0 };
     }
     let y = layout::wide(names[0]);
     let mut x = Range { low: y, high: y };
-    let mut k: usize = 1;
-    while k < n {
-        x = widen(x, layout::wide(names[k]));
-        k += 1;
+    for y in names {
+        x = x.with(layout::wide(*y));
     }
     x
 }
@@ -435,12 +340,10 @@ fn may_touch(r: Row, x: Range) -> bool
     requires { (x.low ≤ x.high) × (x.high ≤ 65535) }
     ensures { result ≡ false → (r.kind ≡ 6 → ⊥) × (x.low ≤ r.word → r.word ≤ x.high → ⊥) }
 {
-    let k = r.kind;
-    if k == 6 {
+    if r.is(Kind::Native) {
         return true;
     }
-    let low = x.low;
-    (r.word as usize + WORDS - low) % WORDS <= x.high - low
+    (r.word as usize + WORDS - x.low) % WORDS <= x.high - x.low
 }
 
 // Where a pass over rows stands: the row, and how many trees are still owed.
@@ -450,45 +353,57 @@ pub struct Scan {
     pub owed: usize,
 }
 
+// The next row that may be one of the names in a range or hide one, or the end, or the row where a closure stops. Another tells a row's children.
+fn skip_until<C: Fn(Row) -> usize, U: Fn(usize) -> bool>(
+    rows: &[u8],
+    at: Scan,
+    x: Range,
+    children: C,
+    stops: U,
+) -> Scan
+    requires owing { Owing (row_table rows.now) at }
+    requires range { (x.low ≤ x.high) × (x.high ≤ 65535) }
+    requires callable { C.IsAlwaysCallable children × U.IsAlwaysCallable stops }
+    requires told { (r : Line) (n : ℕ) → C.post children r n → (n ≡ arity (row_of (numbers r)).head) × (n ≤ 256) }
+    ensures { Skips (Clear x) (row_table rows.now) at.i at.owed result.i result.owed }
+{
+    let mut i = at.i;
+    let mut owed = at.owed;
+    // A while: where the trees owed end is known only when their rows are read.
+    while 0 < owed {
+        if stops(i) {
+            break;
+        }
+        let r = layout::row_at(rows, i);
+        if may_touch(r, x) {
+            break;
+        }
+        owed = owed - 1 + children(r);
+        i += 1;
+    }
+    Scan { i, owed }
+}
+
 // The next row that may be one of the names in a range or hide one, or the end. For many rows: the table of children is made once.
 fn far_skip(rows: &[u8], at: Scan, x: Range) -> Scan
     requires { Owing (row_table rows.now) at × (x.low ≤ x.high) × (x.high ≤ 65535) }
-    ensures { Skips (row_table rows.now) x at.i at.owed result.i result.owed }
+    ensures { Skips (Clear x) (row_table rows.now) at.i at.owed result.i result.owed }
 {
     let table = terms::CHILDREN;
-    let mut i = at.i;
-    let mut owed = at.owed;
-    while 0 < owed {
-        let r = layout::row_at(rows, i);
-        if may_touch(r, x) {
-            return Scan { i: i, owed: owed };
-        }
-        owed = owed - 1 + terms::listed(&table, r);
-        i += 1;
-    }
-    Scan { i: i, owed: owed }
+    skip_until(rows, at, x, |r| terms::listed(&table, r), |_| false)
 }
 
 // The same: sixteen rows without the table, which costs more to make than so few rows to pass, and the others with it.
 fn skip(rows: &[u8], at: Scan, x: Range) -> Scan
     requires { Owing (row_table rows.now) at × (x.low ≤ x.high) × (x.high ≤ 65535) }
-    ensures { Skips (row_table rows.now) x at.i at.owed result.i result.owed }
+    ensures { Skips (Clear x) (row_table rows.now) at.i at.owed result.i result.owed }
 {
     let near = at.i + 16;
-    let mut i = at.i;
-    let mut owed = at.owed;
-    while 0 < owed {
-        if i == near {
-            return far_skip(rows, Scan { i: i, owed: owed }, x);
-        }
-        let r = layout::row_at(rows, i);
-        if may_touch(r, x) {
-            return Scan { i: i, owed: owed };
-        }
-        owed = owed - 1 + terms::children(r);
-        i += 1;
+    let next = skip_until(rows, at, x, |r| terms::children(r), |i| i == near);
+    if next.i < near {
+        return next;
     }
-    Scan { i: i, owed: owed }
+    far_skip(rows, next, x)
 }
 
 // What a pass does at a row.
@@ -499,323 +414,215 @@ pub enum Turn {
     // the row and all its trees stand: all names are hidden there
     Whole,
     // rows are put for it, from one to before another
-    Puts(usize, usize),
+    Puts(Span),
     // some names are hidden below it, and others may not be
     Mixed,
 }
 
-// What a pass does at a row that may be a name or hide one.
-fn turn_at(types: &[u8], names: &[u16], bounds: &[u16], r: Row) -> Turn
+// What a pass does at a row, if it passes no tree whole.
+fn turn_in(types: &Types, names: &[u16], bounds: &[u16], r: Row) -> Turn
     requires { (length names.now ≤ 8) × (length names.now < length bounds.now) }
-    ensures { Turns (form_of (type_table types.now)) names.now bounds.now (row_of (numbers r)) result }
+    ensures turn { Turns (form_of types.now) names.now bounds.now (row_of (numbers r)) result }
+    ensures rowwise { result ≡ Whole → ⊥ }
 {
-    let k = r.kind;
-    if k == 5 {
-        let f = place_of(names, 0, r.word);
-        match f {
-            Found::At(j) => {
-                let p = j as usize;
-                return Turn::Puts(layout::wide(bounds[p]), layout::wide(bounds[p + 1]));
-            }
-            Found::Nothing => {
-                return Turn::Stands;
-            }
-        }
+    match chosen(names, 0, r) {
+        Some(j) => Turn::Puts(argument(bounds, j)),
+        None if hides_some(types, names, r) => Turn::Mixed,
+        None => Turn::Stands,
     }
-    if k == 6 {
+}
+
+// What a pass does at a row: below a function that binds all the names, none is put.
+fn turn_at(types: &Types, names: &[u16], bounds: &[u16], r: Row) -> Turn
+    requires { (length names.now ≤ 8) × (length names.now < length bounds.now) }
+    ensures { Turns (form_of types.now) names.now bounds.now (row_of (numbers r)) result }
+{
+    if r.is(Kind::Native) {
         if binds_all(types, names, r.ty) {
             return Turn::Whole;
         }
     }
-    if hides_some(types, names, r) {
-        return Turn::Mixed;
-    }
-    Turn::Stands
+    turn_in(types, names, bounds, r)
 }
 
-// What one pass made: the row behind the body and the rows written; or nothing is known.
+// What one pass made: the row behind the tree that it read, and how many rows it wrote.
 #[derive(Clone, Copy)]
-pub enum Pass {
-    Made(usize, usize),
-    Unknown,
+pub struct Made {
+    pub end: usize,
+    pub rows: usize,
 }
 
-// The rows of the body at a row with the arguments put, in one pass, into a table that may have more room. It knows nothing where there is no room.
+// Why a pass makes nothing.
+#[derive(Clone, Copy)]
+enum Stop {
+    // there is no room for the rows
+    Full,
+    // some names are hidden below a row, and others may not be
+    Mixed,
+}
+
+// The rows of the body at a row with the arguments put, in one pass, into a table that may have more room. It makes nothing where there is no room.
 // This one goes row by row, by a mask for each tree owed: for names of which some are hidden and others are not.
 fn put_masked(
-    types: &[u8],
+    types: &Types,
     rows: &[u8],
     body: usize,
     names: &[u16],
     bounds: &[u16],
     to: &mut [u8],
-) -> Pass
+) -> Option<Made>
     requires { Ready (row_table rows.now) body names.now bounds.now × Exact (row_table rows.now) × (length to.old ≤ 32768) }
-    ensures { Passes (form_of (type_table types.now)) (row_table rows.now) body names.now bounds.now (row_table to.new) result }
+    ensures { IfSome result (λ m. Passes (form_of types.now) (row_table rows.now) body names.now bounds.now (row_table to.new) m) }
 {
-    let room = layout::term_rows(to);
-    let mut masks = [0u8; 2048];
-    let mut owed: usize = 1;
-    let mut i = body;
-    let mut w: usize = 0;
-    while 0 < owed {
-        let r = layout::row_at(rows, i);
-        let s = spot(names, bounds, masks[owed - 1], r, i);
-        owed = descend(types, names, r, &mut masks, owed);
-        let n = s.to - s.from;
-        if room < w + n {
-            return Pass::Unknown;
-        }
-        copy_rows(to, w, rows, s.from, n);
-        w += n;
-        i += 1;
-    }
-    Pass::Made(i, w)
+    let mut table = Table { to, rows: 0 };
+    let end = pass_masked(types, rows, body, names, bounds, &mut table)?;
+    Some(Made {
+        end,
+        rows: table.rows,
+    })
 }
 
-// The same with no mask, as long as each row hides none of the names or is a function that hides all: rows that stand side by side are copied at once.
-// At another row it begins again with masks. This one goes row by row.
-fn put_near(
-    types: &[u8],
+// The rows of the body at a row with the arguments put go to a sink, with no mask, as long as each row hides none of the names or is a function that
+// hides all: rows that stand side by side go at once. The row behind the body.
+fn pass_bare<P: Puts, S: Sink>(
+    types: &Types,
     rows: &[u8],
     body: usize,
-    names: &[u16],
-    bounds: &[u16],
-    to: &mut [u8],
-) -> Pass
-    requires { Ready (row_table rows.now) body names.now bounds.now × Exact (row_table rows.now) × (length to.old ≤ 32768) }
-    ensures { Passes (form_of (type_table types.now)) (row_table rows.now) body names.now bounds.now (row_table to.new) result }
+    puts: &P,
+    sink: &mut S,
+) -> Result<usize, Stop>
+    requires ready { Ready (row_table rows.now) body (P.names puts.now) (P.bounds puts.now) }
+    requires exact { P.jumps puts.now → Exact (row_table rows.now) }
+    requires known { P.ready puts.now }
+    requires empty { S.holds sink.old [] }
+    ensures { IfOk result (λ e. Taken S.holds S.room S.loan (form_of types.now) (row_table rows.now) body (P.names puts.now) (P.bounds puts.now) sink.old sink.new e) }
 {
-    let room = layout::term_rows(to);
-    let x = range_of(names);
-    let mut owed: usize = 1;
-    let mut i = body;
+    let mut at = Scan { i: body, owed: 1 };
     let mut from = body;
-    let mut w: usize = 0;
-    while 0 < owed {
-        let r = layout::row_at(rows, i);
-        if may_touch(r, x) {
-            let t = turn_at(types, names, bounds, r);
-            match t {
-                Turn::Stands => {
-                    owed = owed - 1 + terms::children(r);
-                    i += 1;
-                }
-                Turn::Whole => {
-                    owed -= 1;
-                    i = terms::end_of(rows, i);
-                }
-                Turn::Puts(a, b) => {
-                    let n = (i - from) + (b - a);
-                    if room < w + n {
-                        return Pass::Unknown;
-                    }
-                    copy_both(
-                        to,
-                        w,
-                        rows,
-                        Span { from: from, to: i },
-                        Span { from: a, to: b },
-                    );
-                    owed = owed - 1 + terms::children(r);
-                    w += n;
-                    i += 1;
-                    from = i;
-                }
-                Turn::Mixed => {
-                    return put_masked(types, rows, body, names, bounds, to);
-                }
-            }
-        } else {
-            owed = owed - 1 + terms::children(r);
-            i += 1;
+    // A loop: a turn passes one row or a whole tree, and where the trees owed end is known only when their rows are read.
+    loop {
+        at = puts.skip(rows, at);
+        if at.owed == 0 {
+            break;
         }
-    }
-    let n = i - from;
-    if room < w + n {
-        return Pass::Unknown;
-    }
-    copy_rows(to, w, rows, from, n);
-    Pass::Made(i, w + n)
-}
-
-// The same, where rows that no name touches are passed in a loop of their own.
-fn put_far(
-    types: &[u8],
-    rows: &[u8],
-    body: usize,
-    names: &[u16],
-    bounds: &[u16],
-    to: &mut [u8],
-) -> Pass
-    requires { Ready (row_table rows.now) body names.now bounds.now × Exact (row_table rows.now) × (length to.old ≤ 32768) }
-    ensures { Passes (form_of (type_table types.now)) (row_table rows.now) body names.now bounds.now (row_table to.new) result }
-{
-    let room = layout::term_rows(to);
-    let x = range_of(names);
-    let mut from = body;
-    let mut w: usize = 0;
-    let mut at = skip(rows, Scan { i: body, owed: 1 }, x);
-    while 0 < at.owed {
-        let i = at.i;
-        let owed = at.owed;
-        let r = layout::row_at(rows, i);
-        let t = turn_at(types, names, bounds, r);
-        match t {
+        let r = layout::row_at(rows, at.i);
+        match puts.turn(types, r) {
             Turn::Stands => {
-                at = skip(
-                    rows,
-                    Scan {
-                        i: i + 1,
-                        owed: owed - 1 + terms::children(r),
-                    },
-                    x,
-                );
+                at = Scan {
+                    i: at.i + 1,
+                    owed: at.owed - 1 + terms::children(r),
+                };
             }
             Turn::Whole => {
-                at = skip(
-                    rows,
-                    Scan {
-                        i: terms::end_of(rows, i),
-                        owed: owed - 1,
-                    },
-                    x,
-                );
+                at = Scan {
+                    i: terms::end_of(rows, at.i),
+                    owed: at.owed - 1,
+                };
             }
-            Turn::Puts(a, b) => {
-                let n = (i - from) + (b - a);
-                if room < w + n {
-                    return Pass::Unknown;
+            Turn::Puts(arg) => {
+                if !sink.take(rows, Span { from, to: at.i }) {
+                    return Err(Stop::Full);
                 }
-                copy_both(
-                    to,
-                    w,
-                    rows,
-                    Span { from: from, to: i },
-                    Span { from: a, to: b },
-                );
-                w += n;
-                from = i + 1;
+                if !sink.take(rows, arg) {
+                    return Err(Stop::Full);
+                }
+                from = at.i + 1;
                 // a name's row has no children
-                at = skip(
-                    rows,
-                    Scan {
-                        i: i + 1,
-                        owed: owed - 1,
-                    },
-                    x,
-                );
+                at = Scan {
+                    i: from,
+                    owed: at.owed - 1,
+                };
             }
             Turn::Mixed => {
-                return put_masked(types, rows, body, names, bounds, to);
+                return Err(Stop::Mixed);
             }
         }
     }
-    let end = at.i;
-    let n = end - from;
-    if room < w + n {
-        return Pass::Unknown;
+    if !sink.take(rows, Span { from, to: at.i }) {
+        return Err(Stop::Full);
     }
-    copy_rows(to, w, rows, from, n);
-    Pass::Made(end, w + n)
+    Ok(at.i)
 }
 
-// Rows from which on a pass goes by `put_far`: for fewer, to call its inner loop costs more than the loop saves.
-const MANY_ROWS: usize = 256;
+// The same with no mask.
+fn put_bare<P: Puts>(
+    types: &Types,
+    rows: &[u8],
+    body: usize,
+    puts: &P,
+    to: &mut [u8],
+) -> Result<Made, Stop>
+    requires ready { Ready (row_table rows.now) body (P.names puts.now) (P.bounds puts.now) }
+    requires exact { Exact (row_table rows.now) }
+    requires known { P.ready puts.now }
+    ensures { IfOk result (λ m. Passes (form_of types.now) (row_table rows.now) body (P.names puts.now) (P.bounds puts.now) (row_table to.new) m) }
+{
+    let mut table = Table { to, rows: 0 };
+    let end = pass_bare(types, rows, body, puts, &mut table)?;
+    Ok(Made {
+        end,
+        rows: table.rows,
+    })
+}
 
-// The same, as it goes faster.
+// The same, with no mask as far as that goes.
 pub fn put_once(
-    types: &[u8],
+    types: &Types,
     rows: &[u8],
     body: usize,
     names: &[u16],
     bounds: &[u16],
     to: &mut [u8],
-) -> Pass
+) -> Option<Made>
     requires { Ready (row_table rows.now) body names.now bounds.now × Exact (row_table rows.now) × (length to.old ≤ 32768) }
-    ensures { Passes (form_of (type_table types.now)) (row_table rows.now) body names.now bounds.now (row_table to.new) result }
+    ensures { IfSome result (λ m. Passes (form_of types.now) (row_table rows.now) body names.now bounds.now (row_table to.new) m) }
 {
-    if layout::term_rows(rows) < MANY_ROWS {
-        return put_near(types, rows, body, names, bounds, to);
+    let many = Many {
+        names,
+        bounds,
+        range: range_of(names),
+    };
+    match put_bare(types, rows, body, &many, to) {
+        Ok(made) => Some(made),
+        Err(Stop::Full) => None,
+        Err(Stop::Mixed) => put_masked(types, rows, body, names, bounds, to),
     }
-    put_far(types, rows, body, names, bounds, to)
 }
 
-// What a pass does at a row where one name is put, for which rows from a to before b stand.
-fn turn_one(types: &[u8], x: u16, a: usize, b: usize, r: Row) -> Turn
-    ensures { Turns (form_of (type_table types.now)) (x ∷ []) (a ∷ b ∷ []) (row_of (numbers r)) result }
+// What a pass does at a row where one name is put, for which some rows stand.
+fn turn_one(types: &Types, x: u16, arg: Span, r: Row) -> Turn
+    ensures { Turns (form_of types.now) (x ∷ []) (arg.from ∷ arg.to ∷ []) (row_of (numbers r)) result }
 {
-    let k = r.kind;
-    if k == 6 {
+    if r.is(Kind::Native) {
         if has_name(types, r.ty, layout::word_of(x)) {
             return Turn::Whole;
         }
         return Turn::Stands;
     }
-    if r.word == layout::word_of(x) {
-        if k == 5 {
-            return Turn::Puts(a, b);
-        }
-        if k == 19 {
-            return Turn::Mixed;
-        }
+    if r.word != layout::word_of(x) {
+        return Turn::Stands;
     }
-    Turn::Stands
+    match r.kind() {
+        Some(Kind::Variable) => Turn::Puts(arg),
+        Some(Kind::Let) => Turn::Mixed,
+        _ => Turn::Stands,
+    }
 }
 
-// One name put in one pass, row by row: as `put_near`, with the name and the rows that are put for it in registers. Where a let hides the name, it
-// knows nothing.
-pub fn put_one(types: &[u8], rows: &[u8], body: usize, x: u16, arg: Span, to: &mut [u8]) -> Pass
+// One name put in one pass, row by row, with the name and the rows that are put for it in registers. Where a let hides the name, it makes nothing.
+pub fn put_one(
+    types: &Types,
+    rows: &[u8],
+    body: usize,
+    x: u16,
+    arg: Span,
+    to: &mut [u8],
+) -> Option<Made>
     requires { Ready (row_table rows.now) body (x ∷ []) (arg.from ∷ arg.to ∷ []) × Exact (row_table rows.now) × (length to.old ≤ 32768) }
-    ensures { Passes (form_of (type_table types.now)) (row_table rows.now) body (x ∷ []) (arg.from ∷ arg.to ∷ []) (row_table to.new) result }
+    ensures { IfSome result (λ m. Passes (form_of types.now) (row_table rows.now) body (x ∷ []) (arg.from ∷ arg.to ∷ []) (row_table to.new) m) }
 {
-    let room = layout::term_rows(to);
-    let a = arg.from;
-    let b = arg.to;
-    let mut owed: usize = 1;
-    let mut i = body;
-    let mut from = body;
-    let mut w: usize = 0;
-    while 0 < owed {
-        let r = layout::row_at(rows, i);
-        let t = turn_one(types, x, a, b, r);
-        match t {
-            Turn::Stands => {
-                owed = owed - 1 + terms::children(r);
-                i += 1;
-            }
-            Turn::Whole => {
-                owed -= 1;
-                i = terms::end_of(rows, i);
-            }
-            Turn::Puts(c, d) => {
-                let n = (i - from) + (d - c);
-                if room < w + n {
-                    return Pass::Unknown;
-                }
-                copy_both(
-                    to,
-                    w,
-                    rows,
-                    Span { from: from, to: i },
-                    Span { from: c, to: d },
-                );
-                owed = owed - 1 + terms::children(r);
-                w += n;
-                i += 1;
-                from = i;
-            }
-            Turn::Mixed => {
-                return Pass::Unknown;
-            }
-        }
-    }
-    let n = i - from;
-    if room < w + n {
-        return Pass::Unknown;
-    }
-    copy_rows(to, w, rows, from, n);
-    Pass::Made(i, w + n)
+    let one = One { name: x, arg };
+    put_bare(types, rows, body, &one, to).ok()
 }
 
 // A new row, the i-th of a table.

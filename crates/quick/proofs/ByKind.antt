@@ -3,7 +3,7 @@ use Prim.Native.Nat.{ℕ, ◌<◌}
 use mathlib.Core.Path.{◌≡◌, refl, ◌∙◌}
 use mathlib.Core.Bool.{Bool, true, false, cond}
 use mathlib.Core.List.{List, [], ◌∷◌}
-use mathlib.Core.Option.{none}
+use Rattle.std.specs.Prelude.{None}
 use native.Mathlib.Omega.{arith}
 use lib.Dec.{eqb}
 use lib.ListN.{get_or}
@@ -12,7 +12,8 @@ use Rattle.meaning.specs.Bytes.{◌∧ᵇ◌, within}
 use Rattle.meaning.specs.Types.{form_no, result_no, empty}
 use Rattle.meaning.specs.Terms.{str, file, truth, ite, cons, head_from, none-used, kind_fields, fits, last_kind, row_fault}
 use Rattle.meaning.specs.Typing.{⟨⟩, ◌▹◌, base_no, lit_base, rule_ok}
-use Rattle.rules.specs.Forms.{says, forms, three, FixedKind}
+use Rattle.rules.specs.Forms.{forms, three, FixedKind}
+use Rattle.layout.specs.Forms.{says}
 use Rattle.rules.proofs.ByRule.{rule-lit, rule-foreign, rule-if, rule-nil, rule-cons, list-says}
 use Rattle.quick.specs.Kinds.{PlainKind, LeafKind, OneChild}
 
@@ -20,7 +21,7 @@ pub never : {b : Bool} → b ≡ false → b ≡ true → ⊥
 never p q = let z : ◌≡◌ {A = ℕ} 0 1 = cc in omega arith
 
 -- nothing is wrong with a row alone whose fields fit and whose type number is one of the table's
-pub row_fits : (k n t w count : ℕ) → within 1 19 k ≡ true → fits (get_or kind_fields k none-used) (k ∷ n ∷ t ∷ w ∷ []) ≡ true → t < count → row_fault 1 count (k ∷ n ∷ t ∷ w ∷ []) ≡ none
+pub row_fits : (k n t w count : ℕ) → within 1 19 k ≡ true → fits (get_or kind_fields k none-used) (k ∷ n ∷ t ∷ w ∷ []) ≡ true → t < count → row_fault 1 count (k ∷ n ∷ t ∷ w ∷ []) ≡ None
 unfolding row_fault last_kind
 row_fits k n t w count known fit h = rw (known, fit, lt-ltb t count h)
 
@@ -87,7 +88,7 @@ lproject-one = record { plain = plain-kind 18 refl refl refl refl refl; one = λ
 
 -- An if, a cons ------------------------------------------------------------------------------------------------------
 
-module _ (s : List ℕ) (ty : ℕ) where
+module _ (s : List (List ℕ)) (ty : ℕ) where
   pub branch-rule : (a : ℕ) → form_no (says s a) ≡ 3 → rule_ok (forms s) empty ite ty (a ▹ ty ▹ ty ▹ ⟨⟩) ≡ true
   unfolding ◌∧ᵇ◌
   branch-rule a f = rule-if s empty ty a ty ty ∙ rw (eq-eqb _ _ f, eq-eqb ty ty refl)

@@ -1,14 +1,14 @@
 -- The chains of names: what a chain finds is what the scope means, and they stay right when names come and go. Assumes nothing.
 use Prim.Native.Nat.{ℕ, zero, suc, ◌+◌, ◌%◌, ◌≤◌, ◌<◌}
-use mathlib.Core.Path.{◌≡◌, refl, ap, sym, ◌∙◌}
+use mathlib.Core.Path.{◌≡◌, refl, ap, sym, ◌∙◌, subst}
 use mathlib.Core.List.{List, [], ◌∷◌, ◌++◌, map}
-use mathlib.Core.Option.{none, some}
+use Rattle.std.specs.Prelude.{None, Some}
 use native.Mathlib.Omega.{arith}
 use native.Mathlib.Decide.{ℕ_discrete}
 use borrow.Author.Tests.{eq-eqb, ne_eqb}
 use lib.ListN.{length, get_or, drop, set, length-set, length-drop, drop_of_length-le}
 use lib.Seq.{drop-cons, drop-drop, drop-set-lt, get_or-drop, get_or-set_same, get_or-set_other}
-use Rattle.meaning.specs.Types.{Param, names, types, find}
+use Rattle.meaning.specs.Types.{Param, find}
 use Rattle.rules.proofs.ByPart.{parts-front}
 use Rattle.quick.specs.Names.{packed, name_in, type_in, link_in, param_in, in_scope, ahead, NamesChained}
 
@@ -79,11 +79,11 @@ unfolding in_scope
 scope-chain es b x = skipped x (drop b es) ∙ rw (drop-drop (ahead (x % 256) (drop b es)) b es)
 
 -- an entry of the name tells its type
-pub own_name : (es : List ℕ) (j x : ℕ) → j < length es → name_in (get_or es j 0) ≡ x → find (in_scope es j) x ≡ some (type_in (get_or es j 0))
+pub own_name : (es : List ℕ) (j x : ℕ) → j < length es → name_in (get_or es j 0) ≡ x → find (in_scope es j) x ≡ Some (type_in (get_or es j 0))
 unfolding in_scope find param_in
 own_name es j x h q = rw (drop-cons es j 0 h, eq-eqb x (name_in (get_or es j 0)) (sym q))
 
-pub scope-none : (es : List ℕ) (j x : ℕ) → length es ≤ j → find (in_scope es j) x ≡ none
+pub scope-none : (es : List ℕ) (j x : ℕ) → length es ≤ j → find (in_scope es j) x ≡ None
 unfolding in_scope find
 scope-none es j x h = rw (drop_of_length-le es {i = j} h)
 
@@ -194,11 +194,16 @@ module _ (es hs : List ℕ) (b : ℕ) (c : NamesChained es hs b) where
 
 -- One more in front of those that are there already ------------------------------------------------------------------
 
-pub parts_more : (ps rest now after : List Param) (k m x t : ℕ) → after ≡ record { name = x; type = t } ∷ now → x ≡ get_or (names ps) k 0 → t ≡ get_or (types ps) k 0
-    → suc k ≡ m → m ≤ length ps → now ≡ drop m ps ++ rest → after ≡ drop k ps ++ rest
-parts_more ps rest now after k m x t p q u z h r =
-    let n : k + 1 ≡ m = omega arith in
-    p ∙ rw (q, u, r, ← n, parts-front ps k (omega arith))
+pub parts_none : (ps : List Param) (k : ℕ) → length ps ≤ k → drop k ps ≡ []
+parts_none ps k h = drop_of_length-le ps {i = k} h
+
+pub names_none : (ps : List Param) → [] ++ ps ≡ ps
+names_none ps = refl
+
+pub names_one : (p : Param) (qs ps : List Param) → (p ∷ qs) ++ ps ≡ p ∷ (qs ++ ps)
+names_one p qs ps = refl
+
+pub ruleset parts_bound = (parts-front, parts_none, names_none, names_one)
 
 drop-mapped : (n : ℕ) (es : List ℕ) → map param_in (drop n es) ≡ drop n (map param_in es)
 drop-mapped zero es = refl
@@ -213,3 +218,10 @@ scope-drop es b n = sym (ap (map param_in) (drop-drop n b es)) ∙ drop-mapped n
 pub scope-end : (es : List ℕ) → in_scope es (length es) ≡ []
 unfolding in_scope
 scope-end es = rw (drop_of_length-le es {i = length es} (omega arith))
+
+-- the innermost name falls out of scope
+pub unbound_one : (es hs : List ℕ) (b : ℕ) → NamesChained es hs b → b < length es
+    → NamesChained es (set hs (name_in (get_or es b 0) % 256) (link_in (get_or es b 0))) (b + 1)
+unbound_one es hs b c h =
+    let m : suc b ≡ b + 1 = omega arith in
+    subst (NamesChained es _) m (unbound es hs b c h)

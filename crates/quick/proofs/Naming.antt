@@ -12,7 +12,8 @@ use Rattle.meaning.specs.Terms.{lambda, ty_of, head_from, none-used, a-number, f
 use Rattle.meaning.specs.Typing.{⟨⟩, ◌▹◌, given, rule_ok}
 use Rattle.meaning.proofs.Trees.Tests.{left}
 use Rattle.layout.specs.Rows.{row_table, term_rows}
-use Rattle.rules.specs.Forms.{says, forms}
+use Rattle.rules.specs.Forms.{forms}
+use Rattle.layout.specs.Forms.{says}
 use Rattle.rules.proofs.ByRule.{rule-lambda, params-all}
 use Rattle.typing.proofs.Judging.{judged-variable}
 use Rattle.quick.specs.declared.Place.{Place}
@@ -23,12 +24,12 @@ use Rattle.quick.proofs.OneKind.{native-seen}
 use Rattle.quick.proofs.Places.{sees, is-kind, fields-kept}
 
 -- the names of a function's type
-lambda-params : (s : List ℕ) (ty a : ℕ) → true ≡ rule_ok (forms s) empty lambda ty (a ▹ ⟨⟩) → params (forms s ty) ≡ parts (says s ty)
+lambda-params : (s : List (List ℕ)) (ty a : ℕ) → true ≡ rule_ok (forms s) empty lambda ty (a ▹ ⟨⟩) → params (forms s ty) ≡ parts (says s ty)
 lambda-params s ty a o =
     let f : 6 ≡ form_no (says s ty) = sym (eqb-true _ _ (left _ _ (sym (rule-lambda s empty ty a) ∙ sym o))) in
     params-all s ty 6 f (omega arith) (omega arith)
 
-module _ (s b es ns : List ℕ) (p q : Place) (j n ty w : ℕ) (e : j ∷ n ∷ ty ∷ w ∷ [] ≡ read term_row (drop (8 * p.i) b)) (room : p.s ≤ length es) where
+module _ (s : List (List ℕ)) (b es ns : List ℕ) (p q : Place) (j n ty w : ℕ) (e : j ∷ n ∷ ty ∷ w ∷ [] ≡ read term_row (drop (8 * p.i) b)) (room : p.s ≤ length es) where
   pub sees-variable : (hs : List ℕ) → AtKind b 5 p → true ≡ fits a-number (j ∷ n ∷ ty ∷ w ∷ []) → NamesChained ns hs p.b → true ≡ given (find (in_scope ns p.b) w) ty
       → q ≡ record { i = p.i + 1; s = p.s; b = p.b; ok = true; down = false; future = p.future } → SeesRow (forms s) (row_table b) es ns es ns hs p q
   unfolding head_from within ◌∧ᵇ◌ due_at

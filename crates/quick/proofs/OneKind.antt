@@ -3,7 +3,7 @@ use Prim.Native.Nat.{ℕ, suc, ◌+◌, ◌*◌, ◌/◌, ◌<◌}
 use mathlib.Core.Path.{◌≡◌, refl, ap, sym, ◌∙◌, subst}
 use mathlib.Core.Bool.{true}
 use mathlib.Core.List.{List, [], ◌∷◌, ◌++◌}
-use mathlib.Core.Option.{none}
+use Rattle.std.specs.Prelude.{None}
 use native.Mathlib.Omega.{arith}
 use borrow.Author.Tests.{eq-eqb}
 use lib.ListN.{length, drop}
@@ -15,7 +15,8 @@ use Rattle.meaning.proofs.Trees.Tests.{numbers-same}
 use Rattle.meaning.proofs.Trees.Parse.{grove-more}
 use Rattle.terms.proofs.Scan.{grove-size, grove-none}
 use Rattle.layout.specs.Rows.{term_rows}
-use Rattle.rules.specs.Forms.{says, forms, part_types, is_function, three}
+use Rattle.rules.specs.Forms.{forms, three}
+use Rattle.layout.specs.Forms.{says, part_types, is_function}
 use Rattle.typing.specs.Scope.{judged}
 use Rattle.typing.proofs.ByRow.{tys-more, binds-let}
 use Rattle.typing.proofs.Judging.{judged-any, judged-apply, judged-tuple, judged-fix}
@@ -34,7 +35,7 @@ let_rule : (F : ℕ → Form) (w a ty : ℕ) → rule_ok F empty (bind w) ty (a 
 unfolding rule_ok
 let_rule F w a ty = eq-eqb ty ty refl
 
-module _ (s b : List ℕ) (i n ty w : ℕ) (h : i < length b / 8) where
+module _ (s : List (List ℕ)) (b : List ℕ) (i n ty w : ℕ) (h : i < length b / 8) where
   abbrev F : ℕ → Form
   F = forms s
 
@@ -81,7 +82,7 @@ module _ (s b : List ℕ) (i n ty w : ℕ) (h : i < length b / 8) where
       let t = tree_at l (i + 1) in
       let stated : list (tys (grove l (i + 1) 1)) ≡ a ∷ [] = ap (λ (f : Forest 1). list (tys f)) (grove-one l (i + 1)) ∙ rw c.0 in
       let good = judged-few s b i 6 n ty w h e (find ps) a (fixed-kind 6 refl) r stated in
-      let below : first_bads F (find ps) (scope F lambda ty (tys (grove l (i + 1) 1))) (grove l (i + 1) 1) ≡ none =
+      let below : first_bads F (find ps) (scope F lambda ty (tys (grove l (i + 1) 1))) (grove l (i + 1) 1) ≡ None =
       ap (λ (f : Forest 1). first_bads F (find ps) (λ (_ : ℕ). params (F ty)) f) (grove-one l (i + 1)) ∙ rw (names-in-front (params (F ty)) ps, c.1) in
       let z : i + 1 + size t ≡ i + size (tree_at l i) = omega (arith, size-here s b i 6 n ty w h e, grove-size l (i + 1) 0, grove-none l (i + 1 + size t)) in
       (refl, node-good s b i 6 n ty w h e (find ps) good below, subst (Comes F l ds ps) z (rw (drop_all (params (F ty)) ps m q) at c.2))
@@ -98,7 +99,7 @@ module _ (s b : List ℕ) (i n ty w : ℕ) (h : i < length b / 8) where
       let stated : list (tys (grove l (i + 1) 2)) ≡ a ∷ ty ∷ [] = ap (λ (f : Forest 2). list (tys f)) (grove-two l (i + 1)) ∙ rw (c.0, c.2.0) in
       let good = judged-few s b i 19 n ty w h e (find ps) a (fixed-kind 19 refl) (let_rule F w a ty) stated in
       let c2 = rw bound at c.2 in
-      let below : first_bads F (find ps) (scope F (bind w) ty (tys (grove l (i + 1) 2))) (grove l (i + 1) 2) ≡ none =
+      let below : first_bads F (find ps) (scope F (bind w) ty (tys (grove l (i + 1) 2))) (grove l (i + 1) 2) ≡ None =
       ap (λ (f : Forest 2). first_bads F (find ps) (scope F (bind w) ty (tys f)) f) (grove-two l (i + 1))
       ∙ rw (no_names (find ps), c.1, names-in-front (record { name = w; type = ty_of t } ∷ []) ps, c2.1) in
       let z : j + size u ≡ i + size (tree_at l i) = omega (arith, size-here s b i 19 n ty w h e, grove-size l (i + 1) 1, grove-size l j 0, grove-none l (j + size u)) in

@@ -1,11 +1,13 @@
 -- What is due, as numbers say it. Assumes nothing.
 use Prim.Native.Nat.{ℕ, suc, ◌+◌, ◌-◌, ◌≤◌, ◌<◌}
-use mathlib.Core.Path.{◌≡◌, ◌∙◌}
-use mathlib.Core.List.{List, ◌∷◌, ◌++◌, map}
+use mathlib.Core.Path.{◌≡◌, refl, ap, ◌∙◌}
+use mathlib.Core.List.{List, [], ◌∷◌, ◌++◌, map}
 use native.Mathlib.Omega.{arith}
 use borrow.Author.Tests.{lt-ltb, le-ltb}
-use lib.ListN.{length, get_or, drop, set}
+use lib.ListN.{length, get_or, drop, set, length-set, drop_of_length-le}
 use lib.Seq.{drop-cons}
+use native.Mathlib.Numerals.{add-one}
+use Rattle.rules.proofs.ByPart.{types-length}
 use Rattle.quick.specs.Dues.{Due, wanted, ends, begins, due, dues}
 use Rattle.quick.proofs.Chains.{stored-front}
 
@@ -26,25 +28,36 @@ due-begins e n q =
     rw (le-ltb e 65536 (omega arith), le-ltb e 131072 (omega arith), z)
 
 -- one more in front
-pub dues-stored : (l : List ℕ) (j s v : ℕ) → suc j ≡ s → s ≤ length l → dues (set l j v) j ≡ due v ∷ dues l s
+pub dues-stored : (l : List ℕ) (s v : ℕ) → 0 < s → s ≤ length l → dues (set l (s - 1) v) (s - 1) ≡ due v ∷ dues l s
 unfolding dues
-dues-stored l j s v e h = rw (← e, stored-front l j v (omega arith))
+dues-stored l s v z h =
+    let e : suc (s - 1) ≡ s = omega arith in
+    ap (map due) (stored-front l (s - 1) v (omega arith)) ∙ ap (λ (j : ℕ). due v ∷ map due (drop j l)) e
 
 pub dues-front : (l : List ℕ) (s : ℕ) → s < length l → dues l s ≡ due (get_or l s 0) ∷ dues l (s + 1)
 unfolding dues
 dues-front l s h = let e : suc s ≡ s + 1 = omega arith in rw (← e, drop-cons l s 0 h)
 
-pub wants-more : (ts : List ℕ) (rest now after : List Due) (k m t : ℕ) → after ≡ wanted t ∷ now → t ≡ get_or ts k 0 → suc k ≡ m → m ≤ length ts
-    → now ≡ map wanted (drop m ts) ++ rest → after ≡ map wanted (drop k ts) ++ rest
-wants-more ts rest now after k m t p q z h r = p ∙ rw (q, r, ← z, drop-cons ts k 0 (omega arith))
+-- the parts from the k-th on
+pub wants_front : (ts : List ℕ) (k : ℕ) → k < length ts → map wanted (drop k ts) ≡ wanted (get_or ts k 0) ∷ map wanted (drop (k + 1) ts)
+wants_front ts k h = rw (drop-cons ts k 0 h, add-one k)
 
--- the number in front, by what it says
-module _ (after rest : List Due) (e n : ℕ) (p : after ≡ due e ∷ rest) where
-  pub front-wanted : e ≡ n → n < 65536 → after ≡ wanted n ∷ rest
-  front-wanted q h = p ∙ rw (q, due-wanted n h)
+pub wants_none : (ts : List ℕ) (k : ℕ) → length ts ≤ k → map wanted (drop k ts) ≡ []
+wants_none ts k h = ap (map wanted) (drop_of_length-le ts {i = k} h)
 
-  pub front_ends : e ≡ 65536 + n → n < 65536 → after ≡ ends n ∷ rest
-  front_ends q h = p ∙ rw (due-ends e n q h)
+pub append_none : (ds : List Due) → [] ++ ds ≡ ds
+append_none ds = refl
 
-  pub front-begins : e ≡ 131072 + n → after ≡ begins n ∷ rest
-  front-begins q = p ∙ rw (due-begins e n q)
+pub append_one : (d : Due) (cs ds : List Due) → (d ∷ cs) ++ ds ≡ d ∷ (cs ++ ds)
+append_one d cs ds = refl
+
+pub ruleset parts_wanted = (wants_front, wants_none, append_none, append_one, types-length)
+
+-- WHAT IS DUE, AS IT IS KEPT
+pub ends_kept : (n : ℕ) → n < 65536 → due (65536 + n) ≡ ends n
+ends_kept n h = due-ends (65536 + n) n refl h
+
+pub begins_kept : (n : ℕ) → due (131072 + n) ≡ begins n
+begins_kept n = due-begins (131072 + n) n refl
+
+pub ruleset dues_kept = (dues-stored, due-wanted, ends_kept, begins_kept, length-set)

@@ -7,7 +7,7 @@ use native.Mathlib.Omega.{arith}
 use lib.Dec.{eqb}
 use lib.ListN.{length, get_or, drop}
 use Rattle.meaning.specs.Bytes.{◌∧ᵇ◌, within, read, term_row}
-use Rattle.meaning.specs.declared.Shape.TheVariants.{Whole}
+use Rattle.std.specs.Prelude.{Ok}
 use Rattle.meaning.specs.Types.{Form, Param, parts, form_no, result_no, Ctx, empty}
 use Rattle.meaning.specs.Terms.{fix, arity, Row, kind_no, type_no, ty_of, is, head_from, Fields, words-from, none-used, a-number, an-n, kind_fields, fits, row_of, shape_from, tree_at, grove}
 use Rattle.meaning.specs.Typing.{⟨⟩, ◌▹◌, list, tys, rule_ok}
@@ -15,7 +15,8 @@ use Rattle.meaning.specs.Entries.{no_future}
 use Rattle.terms.proofs.Scan.{shape_on}
 use Rattle.layout.specs.Rows.{row_table, term_rows}
 use Rattle.layout.proofs.Tables.{row-table-length, row-table-at}
-use Rattle.rules.specs.Forms.{says, forms, part_types, is_function, three}
+use Rattle.rules.specs.Forms.{forms, three}
+use Rattle.layout.specs.Forms.{says, part_types, is_function}
 use Rattle.rules.proofs.ByPart.{types-length}
 use Rattle.typing.specs.Scope.{judged, binds}
 use Rattle.typing.proofs.ByRow.{binds-let}
@@ -36,7 +37,7 @@ unfolding list three
 one-listed m a b c e = rw e
 
 -- the rule of a row whose kind is known
-pub kind-rule : (s : List ℕ) (j k n ty w a : ℕ) → j ≡ k → true ≡ rule_ok (forms s) empty (row_of (j ∷ n ∷ ty ∷ w ∷ [])).head ty (three (arity (row_of (j ∷ n ∷ ty ∷ w ∷ [])).head) a ty ty)
+pub kind-rule : (s : List (List ℕ)) (j k n ty w a : ℕ) → j ≡ k → true ≡ rule_ok (forms s) empty (row_of (j ∷ n ∷ ty ∷ w ∷ [])).head ty (three (arity (row_of (j ∷ n ∷ ty ∷ w ∷ [])).head) a ty ty)
     → rule_ok (forms s) empty (head_from k n w) ty (three (arity (head_from k n w)) a ty ty) ≡ true
 unfolding row_of
 kind-rule s j k n ty w a e o = subst (λ (x : ℕ). rule_ok (forms s) empty (head_from x n w) ty (three (arity (head_from x n w)) a ty ty) ≡ true) e (sym o)
@@ -58,7 +59,7 @@ module _ (b : List ℕ) (p : Place) (j n ty w : ℕ) (e : j ∷ n ∷ ty ∷ w �
   type-there count h x = rw (row-table-at b p.i [] (omega arith) ∙ sym e) x
 
 -- A row that is seen: what is due before it is good if what is due behind it is
-module _ (s b es es' : List ℕ) (p q : Place) (k n ty w : ℕ) (h : p.i < length b / 8) (e : k ∷ n ∷ ty ∷ w ∷ [] ≡ read term_row (drop (8 * p.i) b)) where
+module _ (s : List (List ℕ)) (b es es' : List ℕ) (p q : Place) (k n ty w : ℕ) (h : p.i < length b / 8) (e : k ∷ n ∷ ty ∷ w ∷ [] ≡ read term_row (drop (8 * p.i) b)) where
   pub sees : (ns ns' hs' : List ℕ) → q.i ≡ p.i + 1 → Arrays es' ns' hs' q → length es' ≡ length es → length ns' ≡ length ns
       → within 1 19 k ≡ true → fits (get_or kind_fields k none-used) (k ∷ n ∷ ty ∷ w ∷ []) ≡ true → (q.future ≡ false → (p.future ≡ false) × (eqb k 9 ≡ false))
       → owes (due_at (term_rows b) es' q) ≡ owes (dues es p.s) + arity (head_from k n w)
@@ -77,12 +78,12 @@ module _ (s b es es' : List ℕ) (p q : Place) (k n ty w : ℕ) (h : p.i < lengt
         back = λ g.
             let o : owes (due_at (term_rows b) es' q) ≡ suc (owes (dues es p.s)) - 1 + arity (head_from k n w) = owed ∙ omega arith in
             let on = shape_on 1 count (row_table b) p.i (suc (owes (dues es p.s))) (k ∷ n ∷ ty ∷ w ∷ []) (omega (arith, row-table-length b)) row (sym (row_fits k n ty w count known fit below)) (λ z. omega arith) in
-            (on ∙ rw (← o) (subst (λ (x : ℕ). shape_from 1 count (drop x (row_table b)) (owes (due_at (term_rows b) es' q)) x ≡ Whole) next g.0), back g.1);
+            (on ∙ rw (← o) (subst (λ (x : ℕ). shape_from 1 count (drop x (row_table b)) (owes (due_at (term_rows b) es' q)) x ≡ Ok tt) next g.0), back g.1);
       }
 
 -- A row that binds no name at once -----------------------------------------------------------------------------------
 
-module _ (s b es es' : List ℕ) (p q : Place) (j n ty w : ℕ) (e : j ∷ n ∷ ty ∷ w ∷ [] ≡ read term_row (drop (8 * p.i) b)) where
+module _ (s : List (List ℕ)) (b es es' : List ℕ) (p q : Place) (j n ty w : ℕ) (e : j ∷ n ∷ ty ∷ w ∷ [] ≡ read term_row (drop (8 * p.i) b)) where
   abbrev F : ℕ → Form
   F = forms s
 
@@ -175,7 +176,7 @@ module _ (s b es es' : List ℕ) (p q : Place) (j n ty w : ℕ) (e : j ∷ n ∷
 
 -- A row that leaves nothing in the array -----------------------------------------------------------------------------
 
-module _ (s b es : List ℕ) (p q : Place) (j n ty w : ℕ) (e : j ∷ n ∷ ty ∷ w ∷ [] ≡ read term_row (drop (8 * p.i) b)) (room : p.s ≤ length es) where
+module _ (s : List (List ℕ)) (b es : List ℕ) (p q : Place) (j n ty w : ℕ) (e : j ∷ n ∷ ty ∷ w ∷ [] ≡ read term_row (drop (8 * p.i) b)) (room : p.s ≤ length es) where
   pub leaves-leaf : (k form least most : ℕ) → AtKind b k p → LeafKind k form least most → true ≡ fits record { n_low = 0; n_high = 0; words = words-from least most } (j ∷ n ∷ ty ∷ w ∷ [])
       → form_no (says s ty) ≡ form → q ≡ record { i = p.i + 1; s = p.s; b = p.b; ok = true; down = false; future = p.future } → LeavesDue (forms s) (row_table b) es es p q
   leaves-leaf k form least most at leaf fit f to =

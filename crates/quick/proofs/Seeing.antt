@@ -3,7 +3,7 @@ use Prim.Native.Nat.{ℕ, zero, suc, ◌+◌, ◌*◌, ◌/◌, ◌<◌}
 use mathlib.Core.Path.{◌≡◌, refl, ap, sym, ◌∙◌, subst, fun_ext}
 use mathlib.Core.Bool.{true, false}
 use mathlib.Core.List.{List, [], ◌∷◌, ◌++◌, map}
-use mathlib.Core.Option.{none}
+use Rattle.std.specs.Prelude.{None}
 use native.Mathlib.Omega.{arith}
 use native.Mathlib.Decide.{ℕ_discrete}
 use lib.Dec.{eqb}
@@ -16,7 +16,8 @@ use Rattle.meaning.specs.Typing.{Tys, ⟨⟩, ◌▹◌, list, tys, scope, stop,
 use Rattle.meaning.proofs.Trees.Parse.{grove-more}
 use Rattle.terms.proofs.Scan.{grove-size, grove-none}
 use Rattle.layout.specs.Rows.{term_rows}
-use Rattle.rules.specs.Forms.{says, forms, three, FixedKind}
+use Rattle.rules.specs.Forms.{forms, three, FixedKind}
+use Rattle.layout.specs.Forms.{says}
 use Rattle.typing.specs.Scope.{judged}
 use Rattle.typing.proofs.ByRow.{code_at, tree-in, tys-more, tys-none, scope-none}
 use Rattle.typing.proofs.Judging.{judged-in, judged-plain, judged-any}
@@ -56,9 +57,9 @@ owes-wants (t ∷ ws) ds = omega (arith, owes-wants ws ds)
 module _ (F : ℕ → Form) (l : List Row) where
   abbrev Kids : (n : ℕ) → List ℕ → List Due → List Param → ℕ → Type 0
   Kids n ws ds ps i =
-      (list (tys (grove l i n)) ≡ ws) × (first_bads F (find ps) (λ (_ : ℕ). []) (grove l i n) ≡ none) × Comes F l ds ps (i + sizes (grove l i n))
+      (list (tys (grove l i n)) ≡ ws) × (first_bads F (find ps) (λ (_ : ℕ). []) (grove l i n) ≡ None) × Comes F l ds ps (i + sizes (grove l i n))
 
-  none-bad : (Γ : Ctx) (i : ℕ) → first_bads F Γ (λ (_ : ℕ). []) (grove l i 0) ≡ none
+  none-bad : (Γ : Ctx) (i : ℕ) → first_bads F Γ (λ (_ : ℕ). []) (grove l i 0) ≡ None
   unfolding first_bads grove kids
   none-bad Γ i = refl
 
@@ -89,7 +90,7 @@ list-one (t ▹ us) (u ▹ vs) e =
     let b : list us ≡ list vs = cc in
     rw (a, list-one us vs b)
 
-module _ (s b : List ℕ) (i k n ty w : ℕ) (h : i < length b / 8) (e : k ∷ n ∷ ty ∷ w ∷ [] ≡ read term_row (drop (8 * i) b)) where
+module _ (s : List (List ℕ)) (b : List ℕ) (i k n ty w : ℕ) (h : i < length b / 8) (e : k ∷ n ∷ ty ∷ w ∷ [] ≡ read term_row (drop (8 * i) b)) where
   abbrev F : ℕ → Form
   F = forms s
 
@@ -114,7 +115,7 @@ module _ (s b : List ℕ) (i k n ty w : ℕ) (h : i < length b / 8) (e : k ∷ n
   size-here = ap size tree ∙ omega arith
 
   -- the row is good, and so is what stands below it
-  pub node-good : (Γ : Ctx) → judged F Γ (tree_at l i) ≡ true → first_bads F Γ (scope F (head_from k n w) ty (tys kids_of)) kids_of ≡ none → first_bad F Γ (tree_at l i) ≡ none
+  pub node-good : (Γ : Ctx) → judged F Γ (tree_at l i) ≡ true → first_bads F Γ (scope F (head_from k n w) ty (tys kids_of)) kids_of ≡ None → first_bad F Γ (tree_at l i) ≡ None
   unfolding first_bad stop later
   node-good Γ j q = ap (first_bad F Γ) tree ∙ rw (sym (judged-in s b i k n ty w h e Γ) ∙ j, q)
 

@@ -1,13 +1,13 @@
 -- Scopes that end and begin, and the whole: what was due is good if what is due then is. Assumes nothing.
 use Prim.Native.Nat.{ℕ, zero, suc, ◌+◌, ◌/◌, ◌≤◌, ◌<◌}
 use mathlib.Core.Path.{◌≡◌, refl, sym, ◌∙◌, subst, fun_ext}
-use mathlib.Core.Bool.{true, false}
+use mathlib.Core.Bool.{Bool, true, false}
 use mathlib.Core.List.{List, [], ◌∷◌, map}
-use mathlib.Core.Option.{none}
+use Rattle.std.specs.Prelude.{None}
 use native.Mathlib.Omega.{arith}
 use lib.ListN.{length, get_or, drop, replicate, length-map, length-replicate, drop_of_length-le}
 use lib.Seq.{drop-cons}
-use Rattle.meaning.specs.declared.Shape.TheVariants.{Whole}
+use Rattle.std.specs.Prelude.{Ok}
 use Rattle.meaning.specs.Types.{Form, Param, find, empty}
 use Rattle.meaning.specs.Terms.{Row, ty_of, tree_at, row_of, tree_of, shape}
 use Rattle.meaning.specs.Typing.{first_bad}
@@ -18,11 +18,9 @@ use Rattle.layout.proofs.Tables.{row-table-length}
 use Rattle.terms.proofs.Scan.{shape-whole}
 use Rattle.rules.specs.Forms.{forms}
 use Rattle.quick.specs.declared.Place.{Place}
-use Rattle.quick.specs.declared.Seen.{Seen}
 use Rattle.quick.specs.Names.{in_scope, NamesChained}
 use Rattle.quick.specs.Dues.{wanted, ends, begins, dues, owes, due_at, Comes, Arrays, Outside, Inside, Good, SeesDue, Rises, Shows}
 use Rattle.quick.proofs.Chains.{no-entry}
-use Rattle.quick.proofs.ByKind.{never}
 use Rattle.quick.proofs.Owing.{due-wanted, due-ends, due-begins, dues-front}
 
 -- Scopes -------------------------------------------------------------------------------------------------------------
@@ -115,13 +113,13 @@ unfolding find empty
 nothing-named = fun_ext λ x. refl
 
 pub good-whole : (edition count : ℕ) (form : ℕ → Form) (rows : List (List ℕ)) (t : ℕ) → Good edition count form rows (wanted t ∷ []) [] 0
-    → (shape edition count rows ≡ Whole) × (first_bad form empty (tree_of (map row_of rows)) ≡ none)
+    → (shape edition count rows ≡ Ok tt) × (first_bad form empty (tree_of (map row_of rows)) ≡ None)
 unfolding Good owes Comes shape tree_of tree_at
 good-whole edition count form rows t g = (g.0, rw nothing-named at g.1.1)
 
 -- no row from row i on is a future
 abbrev pub Still : List (List ℕ) → ℕ → Type 0
-Still rows i = first_not no_future (drop i rows) ≡ none
+Still rows i = first_not no_future (drop i rows) ≡ None
 
 pub still-on : (rows : List (List ℕ)) (i j : ℕ) → j ≡ i + 1 → i < length rows → no_future (get_or rows i []) ≡ true → Still rows j → Still rows i
 unfolding first_not
@@ -163,13 +161,11 @@ module _ (count : ℕ) (form : ℕ → Form) (b es ns es' ns' hs' : List ℕ) (p
   still-rise ns'' hs'' r u f s = still-down (sym u.still ∙ f) (subst (Still (row_table b)) u.row s)
 
 -- what a check tells
-pub shows_nothing : (edition : ℕ) (types rows : List ℕ) (r : Seen) → r.good ≡ false → Shows edition types rows r
-shows_nothing edition types rows r e = record { whole = λ z. absurd (never e z); typed = λ z. absurd (never e z); still = λ z f. absurd (never e z) }
-
-pub shows-all : (types rows : List ℕ) (t : ℕ) (r : Seen) → (r.good ≡ true → Good 1 (length types / 36) (forms types) (row_table rows) (wanted t ∷ []) [] 0)
-    → (r.good ≡ true → r.future ≡ false → Still (row_table rows) 0) → Shows 1 types rows r
-shows-all types rows t r g s =
-    record { whole = λ z. (good-whole _ _ (forms types) (row_table rows) t (g z)).0; typed = λ z. (good-whole _ _ (forms types) (row_table rows) t (g z)).1; still = s }
+pub shows-all : (types : List (List ℕ)) (rows : List ℕ) (t : ℕ) (future : Bool) → Good 1 (length types) (forms types) (row_table rows) (wanted t ∷ []) [] 0
+    → (future ≡ false → Still (row_table rows) 0) → Shows 1 types rows (Ok future)
+shows-all types rows t future g s =
+    let w = good-whole _ _ (forms types) (row_table rows) t g in
+    record { whole = w.0; typed = w.1; still = s }
 
 -- an array of one value: every chain is empty
 all_same : (n v i : ℕ) → i < n → get_or (replicate n v) i 0 ≡ v

@@ -1,18 +1,17 @@
 -- What a quick check still has to see, in order: trees that are to state a type, scopes that begin or end. Assumes nothing.
 use Rattle.std.specs.Prelude.{ℕ, suc, ◌+◌, ◌-◌, ◌*◌, ◌/◌, ◌≤◌, ◌<◌, ◌≡◌, true, false, cond, List, [], ◌∷◌, ◌++◌, map, ltb, length, drop, get_or}
-use Rattle.std.proofs.Math.Option.{none}
+use Rattle.std.specs.Prelude.{None}
 use Rattle.meaning.specs.Bytes.{read, term_row}
 use Rattle.meaning.specs.Types.{Form, Param, form_of, find, empty}
-use Rattle.meaning.specs.declared.Shape.TheVariants.{Whole}
+use Rattle.std.specs.Prelude.{Bool, Result, Ok, OnOk, IfOk}
 use Rattle.meaning.specs.Terms.{Row, ty_of, size, kind_no, type_no, tree_at, tree_of, row_of, shape_from, shape}
 use Rattle.meaning.specs.Typing.{first_bad}
 use Rattle.meaning.specs.Records.{first_not}
 use Rattle.meaning.specs.Entries.{no_future}
-use Rattle.layout.specs.Rows.{type_table, row_table, term_rows}
+use Rattle.layout.specs.Rows.{row_table, term_rows}
 use Rattle.typing.specs.Scope.{binds}
 use Rattle.quick.specs.Names.{in_scope, NamesChained}
 use Rattle.quick.specs.declared.Place.{Place}
-use Rattle.quick.specs.declared.Seen.{Seen}
 
 -- a tree of a type; the end of the scope of so many names; the beginning of the scope of a row's names
 pub data Due : Type 0 where
@@ -37,7 +36,7 @@ owes (begins j ∷ ds) = owes ds
 unfoldable pub Comes : (ℕ → Form) → List Row → List Due → List Param → ℕ → Type 0
 Comes form l [] ps i = i ≡ length l
 Comes form l (wanted t ∷ ds) ps i =
-    (ty_of (tree_at l i) ≡ t) × (first_bad form (find ps) (tree_at l i) ≡ none) × Comes form l ds ps (i + size (tree_at l i))
+    (ty_of (tree_at l i) ≡ t) × (first_bad form (find ps) (tree_at l i) ≡ None) × Comes form l ds ps (i + size (tree_at l i))
 Comes form l (ends n ∷ ds) ps i = Comes form l ds (drop n ps) i
 Comes form l (begins j ∷ ds) ps i = Comes form l ds (binds form (tree_at l j) ++ ps) i
 
@@ -81,7 +80,7 @@ pub record Inside (form : ℕ → Form) (l : List Row) (ns ns' hs : List ℕ) (j
 
 -- the rows from row i on are as they should be, as far as they are due
 unfoldable pub Good : ℕ → ℕ → (ℕ → Form) → List (List ℕ) → List Due → List Param → ℕ → Type 0
-Good edition count form rows ds ps i = (shape_from edition count (drop i rows) (owes ds) i ≡ Whole) × Comes form (map row_of rows) ds ps i
+Good edition count form rows ds ps i = (shape_from edition count (drop i rows) (owes ds) i ≡ Ok tt) × Comes form (map row_of rows) ds ps i
 
 module _ (form : ℕ → Form) (rows : List (List ℕ)) where
   -- the row at a place is seen, of a table of so many types: its tree and what was due are good if what is due behind it is
@@ -112,7 +111,7 @@ pub record Rises (form : ℕ → Form) (rows : List (List ℕ)) (es ns ns' hs' :
       → Good edition count form rows (dues es p.s) (in_scope ns p.b) p.i
 
 -- what a check of rows of an edition tells: where they are good, their shape and typing, and that there is no future where none was seen
-pub record Shows (edition : ℕ) (types rows : List ℕ) (r : Seen) : Type 0 where
-  pub whole : r.good ≡ true → shape edition (length types / 36) (row_table rows) ≡ Whole
-  pub typed : r.good ≡ true → first_bad (form_of (type_table types)) empty (tree_of (term_rows rows)) ≡ none
-  pub still : r.good ≡ true → r.future ≡ false → first_not no_future (row_table rows) ≡ none
+pub record Shows (edition : ℕ) (types : List (List ℕ)) (rows : List ℕ) (r : Result Bool ℕ) : Type 0 where
+  pub whole : OnOk r (shape edition (length types) (row_table rows) ≡ Ok tt)
+  pub typed : OnOk r (first_bad (form_of types) empty (tree_of (term_rows rows)) ≡ None)
+  pub still : IfOk r (λ future. future ≡ false → first_not no_future (row_table rows) ≡ None)

@@ -4,7 +4,8 @@ use Rattle.meaning.specs.Bytes.{within}
 use Rattle.meaning.specs.Types.{form_no, empty}
 use Rattle.meaning.specs.Terms.{arity, head_from, words-from, none-used, an-n, kind_fields}
 use Rattle.meaning.specs.Typing.{rule_ok}
-use Rattle.rules.specs.Forms.{says, forms, three, FixedKind}
+use Rattle.rules.specs.Forms.{forms, three, FixedKind}
+use Rattle.layout.specs.Forms.{says}
 
 -- a kind that binds no name and is no future, whose rule asks only what at most three children state
 pub record PlainKind (k : ℕ) : Type 0 where
@@ -18,7 +19,7 @@ pub record PlainKind (k : ℕ) : Type 0 where
 pub record LeafKind (k form least most : ℕ) : Type 0 where
   pub plain : PlainKind k
   pub none : (n w : ℕ) → arity (head_from k n w) ≡ 0
-  pub asks : (types : List ℕ) (ty n w : ℕ) → form_no (says types ty) ≡ form → rule_ok (forms types) empty (head_from k n w) ty (three (arity (head_from k n w)) 0 ty ty) ≡ true
+  pub asks : (types : List (List ℕ)) (ty n w : ℕ) → form_no (says types ty) ≡ form → rule_ok (forms types) empty (head_from k n w) ty (three (arity (head_from k n w)) 0 ty ty) ≡ true
   pub fields : get_or kind_fields k none-used ≡ record { n_low = 0; n_high = 0; words = words-from least most }
 
 -- one of one child, and the range of its n

@@ -1,9 +1,11 @@
 // What is still to be seen, on a stack that grows from the end of an array to its front.
+#![tactic(auto, using(crate::proofs::Owing::dues_kept))]
+
 ghost use Rattle.std.specs.Prelude.{◌≡◌, ◌∷◌, ◌++◌, map, ◌+◌, ◌≤◌, ◌<◌, length};
-ghost use Rattle.rules.specs.Forms.{says, part_types};
+ghost use Rattle.layout.specs.Forms.{says, part_types};
 ghost use Rattle.quick.specs.Dues.{wanted, ends, begins, due, dues};
 
-use rules::forms;
+use layout::views::Types;
 
 // The numbers from which on one means the end of a scope, and the beginning of one.
 pub const ENDS: u32 = 65536;
@@ -45,15 +47,14 @@ pub fn begin_scope(stack: &mut [u32], s: usize, i: usize) -> usize
 }
 
 // Trees of the types of the parts of type t.
-pub fn want_parts(types: &[u8], t: u16, stack: &mut [u32], s: usize) -> usize
+#[tactic(auto, using(crate::proofs::Owing::parts_wanted))]
+pub fn want_parts(types: &Types, t: u16, stack: &mut [u32], s: usize) -> usize
     requires { (8 ≤ s) × (s ≤ length stack.old) }
     ensures { (result + length (part_types (says types.now t)) ≡ s) × (length stack.new ≡ length stack.old) × (dues stack.new result ≡ map wanted (part_types (says types.now t)) ++ dues stack.old s) }
 {
     let mut j = s;
-    let mut k = forms::parts_of(types, t);
-    while 0 < k {
-        k -= 1;
-        j = want(stack, j, forms::type_of(types, t, k));
+    for k in (0..types.parts_of(t)).rev() {
+        j = want(stack, j, types.type_of(t, k));
     }
     j
 }

@@ -12,10 +12,11 @@ ghost use Rattle.layout.specs.Rows.{row_table};
 ghost use Rattle.quick.specs.Names.{NamesChained};
 ghost use Rattle.quick.specs.Dues.{Arrays, Rises, Shows};
 
+use layout::views::Types;
 use typing::stated;
 
 // Where a check stands: the row that is next, the top of what is due, the innermost name; whether all was well so far, whether the next row is due
-// whatever type it states, and whether a future was seen.
+// whatever type it states, and whether a future was seen. A flag: with an Option<Place> for each row a load took a tenth to a third longer.
 #[derive(Clone, Copy)]
 pub struct Place {
     pub i: usize,
@@ -26,24 +27,8 @@ pub struct Place {
     pub future: bool,
 }
 
-// What a check tells: that the rows are good, and whether there is a future among them; where they are not seen to be good, the row that it ended at.
-#[derive(Clone, Copy)]
-pub struct Seen {
-    pub good: bool,
-    pub future: bool,
-    pub row: usize,
-}
-
-// Nothing is known.
-fn unsure(row: usize) -> Seen
-    ensures { result.good ≡ false }
-{
-    Seen {
-        good: false,
-        future: false,
-        row: row,
-    }
-}
+// What a check tells: of rows that are good, whether there is a future among them; of rows that are not seen to be good, the row that it ended at.
+pub type Seen = Result<bool, usize>;
 
 // Rows that are few.
 const FEW: usize = 256;
@@ -77,6 +62,7 @@ fn rise(rows: &[u8], stack: &[u32], bound: &mut [u64], heads: &mut [u16], start:
 {
     let end = stack.len();
     let mut p = start;
+    // A while: the place itself counts what is due.
     while p.s < end {
         let s = p.s;
         let e = stack[s];
@@ -105,8 +91,8 @@ fn rise(rows: &[u8], stack: &[u32], bound: &mut [u64], heads: &mut [u16], start:
 }
 
 // All rows are seen, from the first tree on, with arrays that hold nothing yet.
-fn walk(types: &[u8], rows: &[u8], stack: &mut [u32], bound: &mut [u64], heads: &mut [u16]) -> Seen
-    requires { (length stack.old ≤ 4096) × NamesChained bound.old heads.old (length bound.old) × (length types.now ≤ 9216) × (length rows.now ≤ 16384) }
+fn walk(types: &Types, rows: &[u8], stack: &mut [u32], bound: &mut [u64], heads: &mut [u16]) -> Seen
+    requires { (length stack.old ≤ 4096) × NamesChained bound.old heads.old (length bound.old) × (length types.now ≤ 256) × (length rows.now ≤ 16384) }
     ensures { Shows 1 types.now rows.now result }
 {
     let all = layout::term_rows(rows);
@@ -121,55 +107,59 @@ fn walk(types: &[u8], rows: &[u8], stack: &mut [u32], bound: &mut [u64], heads: 
     loop {
         let i = p.i;
         if p.s < SPARE {
-            return unsure(i);
+            return Err(i);
         }
         if all <= i {
-            return unsure(i);
+            return Err(i);
         }
         p = rows::see(types, rows, stack, bound, heads, p);
         if !p.ok {
-            return unsure(i);
+            return Err(i);
         }
         if !p.down {
             p = rise(rows, stack, bound, heads, p);
             if !p.ok {
-                return unsure(i);
+                return Err(i);
             }
             if !p.down {
-                return Seen {
-                    good: p.i == all,
-                    future: p.future,
-                    row: i,
-                };
+                return if p.i == all { Ok(p.future) } else { Err(i) };
             }
         }
     }
 }
 
-// What is seen of few rows, of the first edition: little room, which costs little to clear.
-pub fn few_good(types: &[u8], rows: &[u8]) -> Seen
-    requires { (length types.now ≤ 9216) × (length rows.now ≤ 16384) }
+// What is seen of rows of the first edition, with room for so many dues and names: little room costs little to clear.
+#[inline(never)]
+fn good_within<const DUES: usize, const NAMES: usize>(types: &Types, rows: &[u8]) -> Seen
+    requires room { (DUES ≤ 4096) × (NAMES ≤ 65535) }
+    requires table { (length types.now ≤ 256) × (length rows.now ≤ 16384) }
     ensures { Shows 1 types.now rows.now result }
 {
-    let mut stack = [0u32; 272];
-    let mut bound = [0u64; 256];
-    let mut heads = [256u16; 256];
+    let mut stack = [0u32; DUES];
+    let mut bound = [0u64; NAMES];
+    let mut heads = [NAMES as u16; 256];
     walk(types, rows, &mut stack, &mut bound, &mut heads)
 }
 
+// What is seen of few rows, of the first edition.
+pub fn few_good(types: &Types, rows: &[u8]) -> Seen
+    requires { (length types.now ≤ 256) × (length rows.now ≤ 16384) }
+    ensures { Shows 1 types.now rows.now result }
+{
+    good_within::<272, 256>(types, rows)
+}
+
 // What is seen of rows of an edition.
-pub fn all_good(types: &[u8], rows: &[u8], edition: u16) -> Seen
-    requires { (length types.now ≤ 9216) × (length rows.now ≤ 16384) }
+pub fn all_good(types: &Types, rows: &[u8], edition: u16) -> Seen
+    requires { (length types.now ≤ 256) × (length rows.now ≤ 16384) }
     ensures { Shows edition types.now rows.now result }
 {
     if edition != layout::EDITION {
-        return unsure(0);
+        return Err(0);
     }
     if layout::term_rows(rows) <= FEW {
-        return few_good(types, rows);
+        few_good(types, rows)
+    } else {
+        good_within::<2064, 2048>(types, rows)
     }
-    let mut stack = [0u32; 2064];
-    let mut bound = [0u64; 2048];
-    let mut heads = [2048u16; 256];
-    walk(types, rows, &mut stack, &mut bound, &mut heads)
 }

@@ -2,10 +2,10 @@
 ghost use Rattle.std.specs.Prelude.{◌≡◌, ◌∷◌, ◌++◌, ℕ, ◌+◌, ◌-◌, ◌*◌, ◌≤◌, ◌<◌, length};
 ghost use Rattle.meaning.specs.Types.{find, parts};
 ghost use Rattle.meaning.specs.Typing.{given};
-ghost use Rattle.rules.specs.Forms.{says};
+ghost use Rattle.layout.specs.Forms.{says};
 ghost use Rattle.quick.specs.Names.{packed, name_in, type_in, link_in, in_scope, NamesChained};
 
-use rules::forms;
+use layout::views::Types;
 
 // An entry: the name, its type, and the entry that is next in its chain.
 fn entry(name: u16, ty: u16, link: u16) -> u64
@@ -49,32 +49,22 @@ pub fn unbind(bound: &[u64], heads: &mut [u16], b: usize, n: usize) -> usize
     requires { NamesChained bound.now heads.old b × (b + n ≤ length bound.now) }
     ensures { (result ≡ b + n) × NamesChained bound.now heads.new result }
 {
-    let end = b + n;
-    let mut j = b;
-    while j < end {
+    for j in b..b + n {
         let e = bound[j];
         heads[(name_in(e) % 256) as usize] = link_in(e);
-        j += 1;
     }
-    j
+    b + n
 }
 
 // The names of the parts of type t, the first one innermost.
-pub fn bind_parts(types: &[u8], t: u16, bound: &mut [u64], heads: &mut [u16], b: usize) -> usize
+#[tactic(auto, using(crate::proofs::Chains::parts_bound))]
+pub fn bind_parts(types: &Types, t: u16, bound: &mut [u64], heads: &mut [u16], b: usize) -> usize
     requires { NamesChained bound.old heads.old b × (8 ≤ b) }
     ensures { (result + length (parts (says types.now t)) ≡ b) × (length bound.new ≡ length bound.old) × NamesChained bound.new heads.new result × (in_scope bound.new result ≡ parts (says types.now t) ++ in_scope bound.old b) }
 {
     let mut j = b;
-    let mut k = forms::parts_of(types, t);
-    while 0 < k {
-        k -= 1;
-        j = bind(
-            bound,
-            heads,
-            j,
-            forms::name_of(types, t, k),
-            forms::type_of(types, t, k),
-        );
+    for k in (0..types.parts_of(t)).rev() {
+        j = bind(bound, heads, j, types.name_of(t, k), types.type_of(t, k));
     }
     j
 }
@@ -86,6 +76,7 @@ pub fn means(bound: &[u64], heads: &[u16], x: u32, t: u16) -> bool
 {
     let all = bound.len();
     let mut j = layout::wide(heads[(x % 256) as usize]);
+    // A while: each entry names the next one of its chain.
     while j < all {
         let e = bound[j];
         if layout::word_of(name_in(e)) == x {

@@ -2,12 +2,16 @@
 ghost use Rattle.std.specs.Prelude.{◌≡◌, true, false, List, ℕ, ◌+◌, ◌/◌, ◌≤◌, ◌<◌, length};
 ghost use Rattle.layout.specs.Rows.{row_table};
 ghost use Rattle.rules.specs.Forms.{forms};
+ghost use Rattle.layout.specs.Forms.{form_byte};
 ghost use Rattle.quick.specs.Names.{NamesChained};
 ghost use Rattle.quick.specs.Kinds.{LeafKind, OneChild};
 ghost use Rattle.quick.specs.Dues.{AtKind, Room, SeesDue, SeesRow, LeavesDue};
 
 use crate::{Place, dues, names};
-use rules::{forms, kinds};
+use layout::forms::Form;
+use layout::kinds::Kind;
+use layout::views::Types;
+use rules::kinds;
 use terms::fields;
 use typing::stated;
 
@@ -56,15 +60,15 @@ fn first(p: Place, s: usize) -> Place
 }
 
 // A row without children, whose rule asks only the form of its type. Its word lies from `least` to `most`.
-fn leaf(types: &[u8], rows: &[u8], form: u8, least: u32, most: u32, p: Place) -> Place
-    requires { (k : ℕ) × AtKind rows.now k p × LeafKind k form least most }
+fn leaf(types: &Types, rows: &[u8], form: Form, least: u32, most: u32, p: Place) -> Place
+    requires { (k : ℕ) × AtKind rows.now k p × LeafKind k (form_byte form) least most }
     ensures { result.ok ≡ true → ((es : List ℕ) → p.s ≤ length es → LeavesDue (forms types.now) (row_table rows.now) es es p result) }
 {
     let r = layout::row_at(rows, p.i);
     if !fields::within(r, 0, 0, least, most) {
         return refused();
     }
-    if forms::form_of(types, r.ty) == form {
+    if types.is(r.ty, form) {
         return next(p, p.s);
     }
     refused()
@@ -73,7 +77,7 @@ fn leaf(types: &[u8], rows: &[u8], form: u8, least: u32, most: u32, p: Place) ->
 // A future: any type will do.
 fn future(rows: &[u8], p: Place) -> Place
     requires { AtKind rows.now 9 p }
-    ensures { result.ok ≡ true → ((types es : List ℕ) → p.s ≤ length es → LeavesDue (forms types) (row_table rows.now) es es p result) }
+    ensures { result.ok ≡ true → ((types : List (List ℕ)) (es : List ℕ) → p.s ≤ length es → LeavesDue (forms types) (row_table rows.now) es es p result) }
 {
     let r = layout::row_at(rows, p.i);
     if fields::numbered(r) {
@@ -90,7 +94,7 @@ fn future(rows: &[u8], p: Place) -> Place
 }
 
 // A row over one child, whose rule asks only what that states. Its n lies from `low` to `high`.
-fn single(types: &[u8], rows: &[u8], low: u8, high: u8, p: Place) -> Place
+fn single(types: &Types, rows: &[u8], low: u8, high: u8, p: Place) -> Place
     requires { (k : ℕ) × AtKind rows.now k p × OneChild k low high }
     ensures { result.ok ≡ true → ((es : List ℕ) → p.s ≤ length es → LeavesDue (forms types.now) (row_table rows.now) es es p result) }
 {
@@ -106,7 +110,7 @@ fn single(types: &[u8], rows: &[u8], low: u8, high: u8, p: Place) -> Place
 }
 
 // A projection: its child states a tuple type with such a part.
-fn project(types: &[u8], rows: &[u8], p: Place) -> Place
+fn project(types: &Types, rows: &[u8], p: Place) -> Place
     requires { AtKind rows.now 17 p }
     ensures { result.ok ≡ true → ((es : List ℕ) → p.s ≤ length es → LeavesDue (forms types.now) (row_table rows.now) es es p result) }
 {
@@ -121,7 +125,7 @@ fn project(types: &[u8], rows: &[u8], p: Place) -> Place
 }
 
 // An if: its first child is a truth, the others state its type.
-fn branch(types: &[u8], rows: &[u8], stack: &mut [u32], p: Place) -> Place
+fn branch(types: &Types, rows: &[u8], stack: &mut [u32], p: Place) -> Place
     requires { AtKind rows.now 10 p × Room stack.old p }
     ensures { result.ok ≡ true → LeavesDue (forms types.now) (row_table rows.now) stack.old stack.new p result }
 {
@@ -130,7 +134,7 @@ fn branch(types: &[u8], rows: &[u8], stack: &mut [u32], p: Place) -> Place
         return refused();
     }
     let a = stated::type_at(rows, p.i + 1);
-    if forms::form_of(types, a) == 3 {
+    if types.is(a, Form::Bool) {
         let s = dues::want(stack, p.s, r.ty);
         return first(p, dues::want(stack, s, r.ty));
     }
@@ -138,7 +142,7 @@ fn branch(types: &[u8], rows: &[u8], stack: &mut [u32], p: Place) -> Place
 }
 
 // A cons: a list of what its first child states, and such a list behind it.
-fn cons(types: &[u8], rows: &[u8], stack: &mut [u32], p: Place) -> Place
+fn cons(types: &Types, rows: &[u8], stack: &mut [u32], p: Place) -> Place
     requires { AtKind rows.now 13 p × Room stack.old p }
     ensures { result.ok ≡ true → LeavesDue (forms types.now) (row_table rows.now) stack.old stack.new p result }
 {
@@ -147,17 +151,17 @@ fn cons(types: &[u8], rows: &[u8], stack: &mut [u32], p: Place) -> Place
         return refused();
     }
     let a = stated::type_at(rows, p.i + 1);
-    if forms::form_of(types, r.ty) != 4 {
+    if !types.is(r.ty, Form::List) {
         return refused();
     }
-    if forms::result_of(types, r.ty) == a {
+    if types.result_of(r.ty) == a {
         return first(p, dues::want(stack, p.s, r.ty));
     }
     refused()
 }
 
 // An application: a function type, and arguments of the types that it asks.
-fn apply(types: &[u8], rows: &[u8], stack: &mut [u32], p: Place) -> Place
+fn apply(types: &Types, rows: &[u8], stack: &mut [u32], p: Place) -> Place
     requires { AtKind rows.now 8 p × Room stack.old p }
     ensures { result.ok ≡ true → LeavesDue (forms types.now) (row_table rows.now) stack.old stack.new p result }
 {
@@ -166,20 +170,20 @@ fn apply(types: &[u8], rows: &[u8], stack: &mut [u32], p: Place) -> Place
         return refused();
     }
     let a = stated::type_at(rows, p.i + 1);
-    if !kinds::is_function(forms::form_of(types, a)) {
+    if !types.is_function(a) {
         return refused();
     }
-    if forms::result_of(types, a) != r.ty {
+    if types.result_of(a) != r.ty {
         return refused();
     }
-    if forms::parts_of(types, a) != r.n as usize {
+    if types.parts_of(a) != r.n as usize {
         return refused();
     }
     first(p, dues::want_parts(types, a, stack, p.s))
 }
 
 // A tuple, by element.
-fn tuple(types: &[u8], rows: &[u8], stack: &mut [u32], p: Place) -> Place
+fn tuple(types: &Types, rows: &[u8], stack: &mut [u32], p: Place) -> Place
     requires { AtKind rows.now 16 p × Room stack.old p }
     ensures { result.ok ≡ true → LeavesDue (forms types.now) (row_table rows.now) stack.old stack.new p result }
 {
@@ -187,17 +191,17 @@ fn tuple(types: &[u8], rows: &[u8], stack: &mut [u32], p: Place) -> Place
     if !fields::counted(r, 1, 8) {
         return refused();
     }
-    if forms::form_of(types, r.ty) != 5 {
+    if !types.is(r.ty, Form::Tuple) {
         return refused();
     }
-    if forms::parts_of(types, r.ty) != r.n as usize {
+    if types.parts_of(r.ty) != r.n as usize {
         return refused();
     }
     next(p, dues::want_parts(types, r.ty, stack, p.s))
 }
 
 // A fix: its child is a native function of the type that fix asks.
-fn fix(types: &[u8], rows: &[u8], p: Place) -> Place
+fn fix(types: &Types, rows: &[u8], p: Place) -> Place
     requires { AtKind rows.now 11 p }
     ensures { result.ok ≡ true → ((es : List ℕ) → p.s ≤ length es → LeavesDue (forms types.now) (row_table rows.now) es es p result) }
 {
@@ -217,7 +221,7 @@ fn fix(types: &[u8], rows: &[u8], p: Place) -> Place
 // A let: its name comes into scope behind its first child.
 fn binder(rows: &[u8], stack: &mut [u32], p: Place) -> Place
     requires { AtKind rows.now 19 p × Room stack.old p }
-    ensures { result.ok ≡ true → ((types : List ℕ) → LeavesDue (forms types) (row_table rows.now) stack.old stack.new p result) }
+    ensures { result.ok ≡ true → ((types : List (List ℕ)) → LeavesDue (forms types) (row_table rows.now) stack.old stack.new p result) }
 {
     let r = layout::row_at(rows, p.i);
     if !fields::numbered(r) {
@@ -231,7 +235,7 @@ fn binder(rows: &[u8], stack: &mut [u32], p: Place) -> Place
 // A variable has the type that its name means.
 fn variable(rows: &[u8], bound: &[u64], heads: &[u16], p: Place) -> Place
     requires { AtKind rows.now 5 p × NamesChained bound.now heads.now p.b }
-    ensures { result.ok ≡ true → ((types es : List ℕ) → p.s ≤ length es → SeesRow (forms types) (row_table rows.now) es bound.now es bound.now heads.now p result) }
+    ensures { result.ok ≡ true → ((types : List (List ℕ)) (es : List ℕ) → p.s ≤ length es → SeesRow (forms types) (row_table rows.now) es bound.now es bound.now heads.now p result) }
 {
     let r = layout::row_at(rows, p.i);
     if !fields::numbered(r) {
@@ -245,7 +249,7 @@ fn variable(rows: &[u8], bound: &[u64], heads: &[u16], p: Place) -> Place
 
 // A native function: the names of its type are in scope in its body.
 fn native(
-    types: &[u8],
+    types: &Types,
     rows: &[u8],
     stack: &mut [u32],
     bound: &mut [u64],
@@ -263,7 +267,7 @@ fn native(
         return refused();
     }
     if kinds::lambda_ok(types, r.ty, stated::type_at(rows, p.i + 1)) {
-        let s = dues::end_scope(stack, p.s, forms::parts_of(types, r.ty));
+        let s = dues::end_scope(stack, p.s, types.parts_of(r.ty));
         let b = names::bind_parts(types, r.ty, bound, heads, p.b);
         return Place {
             i: p.i + 1,
@@ -279,7 +283,7 @@ fn native(
 
 // The row at a place, by its kind.
 pub fn see(
-    types: &[u8],
+    types: &Types,
     rows: &[u8],
     stack: &mut [u32],
     bound: &mut [u64],
@@ -287,33 +291,32 @@ pub fn see(
     p: Place,
 ) -> Place
     requires { (p.i < length rows.now / 8) × (length rows.now ≤ 16384) × Room stack.old p × NamesChained bound.old heads.old p.b }
-    ensures { result.ok ≡ true → SeesDue (forms types.now) (row_table rows.now) (length types.now / 36) stack.old bound.old stack.new bound.new heads.new p result }
+    ensures { result.ok ≡ true → SeesDue (forms types.now) (row_table rows.now) (length types.now) stack.old bound.old stack.new bound.new heads.new p result }
 {
     let r = layout::row_at(rows, p.i);
-    if layout::type_rows(types) <= r.ty as usize {
+    if types.len() <= r.ty as usize {
         return refused();
     }
-    let k = r.kind;
-    match k {
-        1 => leaf(types, rows, 1, 0, fields::LAST_WORD, p),
-        2 => leaf(types, rows, 2, 0, fields::LAST_WORD, p),
-        3 => leaf(types, rows, 3, 0, 0, p),
-        4 => leaf(types, rows, 3, 0, 0, p),
-        5 => variable(rows, bound, heads, p),
-        6 => native(types, rows, stack, bound, heads, p),
-        7 => leaf(types, rows, 7, 1, fields::LAST_NUMBER, p),
-        8 => apply(types, rows, stack, p),
-        9 => future(rows, p),
-        10 => branch(types, rows, stack, p),
-        11 => fix(types, rows, p),
-        12 => leaf(types, rows, 4, 0, 0, p),
-        13 => cons(types, rows, stack, p),
-        14 => single(types, rows, 0, 0, p),
-        15 => single(types, rows, 1, 255, p),
-        16 => tuple(types, rows, stack, p),
-        17 => project(types, rows, p),
-        18 => single(types, rows, 1, 8, p),
-        19 => binder(rows, stack, p),
-        _ => refused(),
+    match r.kind() {
+        Some(Kind::Text) => leaf(types, rows, Form::Str, 0, fields::LAST_WORD, p),
+        Some(Kind::File) => leaf(types, rows, Form::File, 0, fields::LAST_WORD, p),
+        Some(Kind::True) => leaf(types, rows, Form::Bool, 0, 0, p),
+        Some(Kind::False) => leaf(types, rows, Form::Bool, 0, 0, p),
+        Some(Kind::Variable) => variable(rows, bound, heads, p),
+        Some(Kind::Native) => native(types, rows, stack, bound, heads, p),
+        Some(Kind::Foreign) => leaf(types, rows, Form::Foreign, 1, fields::LAST_NUMBER, p),
+        Some(Kind::Apply) => apply(types, rows, stack, p),
+        Some(Kind::Future) => future(rows, p),
+        Some(Kind::If) => branch(types, rows, stack, p),
+        Some(Kind::Fix) => fix(types, rows, p),
+        Some(Kind::Nil) => leaf(types, rows, Form::List, 0, 0, p),
+        Some(Kind::Cons) => cons(types, rows, stack, p),
+        Some(Kind::IsNil) => single(types, rows, 0, 0, p),
+        Some(Kind::Zip) => single(types, rows, 1, 255, p),
+        Some(Kind::Tuple) => tuple(types, rows, stack, p),
+        Some(Kind::Project) => project(types, rows, p),
+        Some(Kind::ListProject) => single(types, rows, 1, 8, p),
+        Some(Kind::Let) => binder(rows, stack, p),
+        None => refused(),
     }
 }

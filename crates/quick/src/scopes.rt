@@ -6,6 +6,7 @@ ghost use Rattle.quick.specs.Names.{NamesChained};
 ghost use Rattle.quick.specs.Dues.{Outside, Inside};
 
 use crate::{Place, names, rows};
+use layout::kinds::Kind;
 use terms::fields;
 use typing::stated;
 
@@ -36,7 +37,7 @@ pub fn enter(rows: &[u8], bound: &mut [u64], heads: &mut [u16], p: Place, j: usi
         return rows::refused();
     }
     let r = layout::row_at(rows, j);
-    if r.kind != 19 {
+    if !r.is(Kind::Let) {
         return rows::refused();
     }
     if fields::LAST_NUMBER < r.word {

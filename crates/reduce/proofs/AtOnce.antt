@@ -1,9 +1,9 @@
 -- Rules carried out in one pass, on rows that may go on behind the tree. Assumes nothing.
 use Prim.Native.Nat.{ℕ, ◌+◌, ◌-◌, ◌≤◌, ◌<◌}
-use mathlib.Core.Path.{◌≡◌, refl, ap, sym, ◌∙◌, subst}
+use mathlib.Core.Path.{◌≡◌, refl, ap, sym, ◌∙◌}
 use mathlib.Core.Bool.{true}
 use mathlib.Core.List.{List, [], ◌∷◌, ◌++◌, map}
-use mathlib.Core.Option.{Option, none, some}
+use Rattle.std.specs.Prelude.{Option, None, Some, IfSome}
 use native.Mathlib.Omega.{arith}
 use native.Mathlib.Numerals.{add-one}
 use lib.ListN.{length, take, drop, length-map}
@@ -16,8 +16,7 @@ use Rattle.meaning.proofs.Trees.Tests.{none-some}
 use Rattle.meaning.proofs.Trees.Parse.{length-flat}
 use Rattle.terms.proofs.Scan.{grove-none, grove-size, size-some}
 use Rattle.put.specs.Put.{standing, Passes}
-use Rattle.put.specs.declared.Pass.{Pass}
-use Rattle.put.specs.declared.Pass.TheVariants.{Made, Unknown}
+use Rattle.put.specs.declared.Made.{Made}
 use Rattle.put.proofs.Meets.{stands}
 use Rattle.reduce.specs.Rule.{rule_of}
 use Rattle.reduce.specs.Plan.{rows_of, row_no, rule_rows, TiesAt}
@@ -25,53 +24,47 @@ use Rattle.reduce.specs.Given.{tie_row, PutsRule}
 use Rattle.reduce.specs.Once.{Goes, MadeAtOnce}
 use Rattle.reduce.specs.declared.puts.Puts.{Puts}
 use Rattle.reduce.proofs.Roots.{grove-three, kind-is, sized-as, root, root-size}
-use Rattle.reduce.proofs.Told.{put-short}
+use Rattle.put.proofs.Short.{put-short}
 use Rattle.reduce.proofs.Kept.{if-then}
 use Rattle.reduce.proofs.Given.{let-goes-at, call-goes, call-rule, call-more, tied, tie-goes}
 
 -- the tree whose rows a rule makes
-rows_made : (o : Option Tree) (x : List (List ℕ)) → rows_of o ≡ some x → (u : Tree) × (o ≡ some u) × (map raw (flat u) ≡ x)
+rows_made : (o : Option Tree) (x : List (List ℕ)) → rows_of o ≡ Some x → (u : Tree) × (o ≡ Some u) × (map raw (flat u) ≡ x)
 unfolding rows_of
-rows_made none x e = absurd (none-some x e)
-rows_made (some u) x e = (u, refl, ap (λ (o : Option (List (List ℕ))). elim o [ none ↦ x | some y ↦ y ]) e)
+rows_made None x e = absurd (none-some x e)
+rows_made (Some u) x e = (u, refl, ap (λ (o : Option (List (List ℕ))). elim o [ None ↦ x | Some y ↦ y ]) e)
 
 rows-size : (u : Tree) → length (map raw (flat u)) ≡ size u
 rows-size u = length-map (flat u) raw ∙ length-flat u
 
 module _ (form : ℕ → Form) (l to : List (List ℕ)) where
-  pub made-at-once : (old new : ℕ) (x : List (List ℕ)) → rule_rows form l ≡ some x → old ≡ size (tree_of (map row_of l)) → new ≡ length x → take new to ≡ x → MadeAtOnce form l to (Made old new)
-  unfolding MadeAtOnce
-  made-at-once old new x e p q r = let (u, o, z) = rows_made (rule_of form (tree_of (map row_of l))) x e in (p, (u, o, q ∙ ap length (sym z) ∙ rows-size u, r ∙ sym z))
-
-  pub unknown-once : MadeAtOnce form l to Unknown
-  unfolding MadeAtOnce
-  unknown-once = tt
+  pub made-at-once : (m : Made) (x : List (List ℕ)) → rule_rows form l ≡ Some x → m.end ≡ size (tree_of (map row_of l)) → m.rows ≡ length x → take m.rows to ≡ x → MadeAtOnce form l to m
+  made-at-once m x e p q r =
+      let (u, o, z) = rows_made (rule_of form (tree_of (map row_of l))) x e in
+      record { whole = p; made = u; rule = o; count = q ∙ ap length (sym z) ∙ rows-size u; front = r ∙ sym z }
 
   -- what a pass made is what the rule makes
   module _ (p : Puts) (r : PutsRule form l [] p) where
-    pub passed-once : (x : Pass) → p.body + size (tree_at (map row_of l) p.body) ≡ size (tree_of (map row_of l)) → Passes form l p.body (take p.count p.names) p.bounds to x → MadeAtOnce form l to x
-    unfolding Passes
-    passed-once (Made e n) w (a, b, c) = made-at-once e n _ r.rows (a ∙ w) b c
-    passed-once Unknown w c = unknown-once
+    pub passed-once : (o : Option Made) → p.body + size (tree_at (map row_of l) p.body) ≡ size (tree_of (map row_of l)) → IfSome o (λ m. Passes form l p.body (take p.count p.names) p.bounds to m) → IfSome o (λ m. MadeAtOnce form l to m)
+    passed-once None w c = tt
+    passed-once (Some m) w c = made-at-once m _ r.rows (c.behind ∙ w) c.count c.front
 
     -- where the tree ends behind the arguments
-    pub argued-once : (x : Pass) (e n old : ℕ) → Passes form l p.body (take p.count p.names) p.bounds to x → x ≡ Made e n → old ≡ size (tree_of (map row_of l)) → MadeAtOnce form l to (Made old n)
-    unfolding Passes
-    argued-once x e n old c q w = let (a, b, d) = subst (λ (y : Pass). Passes form l p.body (take p.count p.names) p.bounds to y) q c in made-at-once old n _ r.rows w b d
+    pub argued-once : (m : Made) (old : ℕ) → Passes form l p.body (take p.count p.names) p.bounds to m → old ≡ size (tree_of (map row_of l)) → MadeAtOnce form l to (record { end = old; rows = m.rows })
+    argued-once m old c w = made-at-once _ _ r.rows w c.count c.front
+
+    -- and as many names are put as there are arguments
+    pub counted-once : (m : Made) (k old : ℕ) → p.count ≡ k → Passes form l p.body (take k p.names) p.bounds to m → old ≡ size (tree_of (map row_of l)) → MadeAtOnce form l to (record { end = old; rows = m.rows })
+    counted-once m k old e c w = argued-once m old (rw e c) w
 
   -- behind a row of its own
-  pub tied-once : (p : Puts) (r : PutsRule form l (tie_row l ∷ []) p) (x : Pass) (e n old : ℕ) (rest : List (List ℕ)) → Passes form l p.body (take p.count p.names) p.bounds rest x → x ≡ Made e n → to ≡ tie_row l ∷ rest → old ≡ size (tree_of (map row_of l)) → MadeAtOnce form l to (Made old (n + 1))
-  unfolding Passes
-  tied-once p r x e n old rest c q t w =
-      let (a, b, d) = subst (λ (y : Pass). Passes form l p.body (take p.count p.names) p.bounds rest y) q c in
-      made-at-once old (n + 1) _ r.rows w (omega (arith, b)) (rw (add-one n, t) (ap (λ (y : List (List ℕ)). tie_row l ∷ y) d))
+  pub tied-once : (p : Puts) (r : PutsRule form l (tie_row l ∷ []) p) (m : Made) (old : ℕ) (rest : List (List ℕ)) → Passes form l p.body (take p.count p.names) p.bounds rest m → to ≡ tie_row l ∷ rest → old ≡ size (tree_of (map row_of l))
+      → MadeAtOnce form l to (record { end = old; rows = m.rows + 1 })
+  tied-once p r m old rest c t w = made-at-once _ _ r.rows w (omega (arith, c.count)) (rw (add-one m.rows, t) (ap (λ (y : List (List ℕ)). tie_row l ∷ y) c.front))
 
 -- how many rows a pass made
-pub pass-few : (form : ℕ → Form) (l : List (List ℕ)) (body : ℕ) (names bounds : List ℕ) (to : List (List ℕ)) (x : Pass) (e n : ℕ) → length l ≤ 2048 → Passes form l body names bounds to x → x ≡ Made e n → n ≤ 4194304
-unfolding Passes
-pass-few form l body names bounds to x e n h c q =
-    let (a, b, d) = subst (λ (y : Pass). Passes form l body names bounds to y) q c in
-    omega (arith, b, put-short form l body names bounds h)
+pub pass-few : (form : ℕ → Form) (l : List (List ℕ)) (body : ℕ) (names bounds : List ℕ) (to : List (List ℕ)) (m : Made) → length l ≤ 2048 → Passes form l body names bounds to m → m.rows ≤ 4194304
+pass-few form l body names bounds to m h c = omega (arith, c.count, put-short form l body names bounds h)
 
 -- By rows --------------------------------------------------------------------------------------------------------
 
@@ -127,11 +120,11 @@ module _ (l : List (List ℕ)) (exact : map raw (map row_of l) ≡ l) (inside : 
       pub then-in : 2 + size (tree_at L 2) ≤ length l
       then-in = omega (arith, inside, then-size)
 
-      if-goes : (form : ℕ → Form) → rule_of form (tree_of L) ≡ some (tree_at L 2)
+      if-goes : (form : ℕ → Form) → rule_of form (tree_of L) ≡ Some (tree_at L 2)
       unfolding rule_of contract
       if-goes form =
           let i : is 3 (tree_at L 1) ≡ true = kind-is l 1 if-two 3 (omega arith) (omega arith) ∙ eq-eqb (K 1) 3 q in
-          ap (rule_of form) (root l inside ite head-if ∙ ap (node ite (U 0)) (grove-three L 1)) ∙ if-then (tree_at L 1) (tree_at L A) (tree_at L (A + size (tree_at L A))) i ∙ ap (λ (x : ℕ). some (tree_at L x)) true-size
+          ap (rule_of form) (root l inside ite head-if ∙ ap (node ite (U 0)) (grove-three L 1)) ∙ if-then (tree_at L 1) (tree_at L A) (tree_at L (A + size (tree_at L A))) i ∙ ap (λ (x : ℕ). Some (tree_at L x)) true-size
 
       pub if_some : (form : ℕ → Form) → Goes form l
       if_some form = (tree_at L 2, if-goes form)
@@ -140,9 +133,9 @@ module _ (l : List (List ℕ)) (exact : map raw (map row_of l) ≡ l) (inside : 
         pub else-in : mid + size (tree_at L mid) ≡ size (tree_of L)
         else-in = ap (λ (x : ℕ). x + size (tree_at L x)) g ∙ sym then-size
 
-        pub then-once : (form : ℕ → Form) (to y : List (List ℕ)) (old : ℕ) → old ≡ mid + size (tree_at L mid) → mid - 2 ≤ length to → y ≡ take 0 to ++ (take (mid - 2) (drop 2 l) ++ drop (0 + (mid - 2)) to) → MadeAtOnce form l y (Made old (mid - 2))
+        pub then-once : (form : ℕ → Form) (to y : List (List ℕ)) (old : ℕ) → old ≡ mid + size (tree_at L mid) → mid - 2 ≤ length to → y ≡ take 0 to ++ (take (mid - 2) (drop 2 l) ++ drop (0 + (mid - 2)) to) → MadeAtOnce form l y (record { end = old; rows = mid - 2 })
         unfolding rows_of
         then-once form to y old w h e =
             let s = stands l exact 2 mid g (omega (arith, then-in, g)) in
             let n : length (standing l 2 mid) ≡ mid - 2 = ap length s ∙ rows-size (tree_at L 2) ∙ omega (arith, g) in
-            made-at-once form l y old (mid - 2) (standing l 2 mid) (ap rows_of (if-goes form) ∙ ap some (sym s)) (w ∙ else-in) (sym n) (ap (take (mid - 2)) e ∙ take_at (standing l 2 mid) (drop (0 + (mid - 2)) to) (mid - 2) n)
+            made-at-once form l y _ (standing l 2 mid) (ap rows_of (if-goes form) ∙ ap Some (sym s)) (w ∙ else-in) (sym n) (ap (take (mid - 2)) e ∙ take_at (standing l 2 mid) (drop (0 + (mid - 2)) to) (mid - 2) n)

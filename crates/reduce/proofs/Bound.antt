@@ -11,18 +11,14 @@ use lib.ListN.{length, get_or, take, set}
 use lib.Seq.{take-suc, take-suc-set, get_or-set_same, get_or-set_other}
 use borrow.Author.Tests.{ne_eqb}
 use Rattle.meaning.specs.Types.{Str, File, Truth, ntv, frn, Param, Form, absent, base, f_tuple, f_fun, types, parts, elem_of, form_no, result_no, form_row, form_of}
-use Rattle.layout.specs.Rows.{type_table}
-use Rattle.rules.specs.Forms.{says, forms}
-
-pub none-bound : (ps : List Param) → length ps ≡ 0 → ps ≡ []
-none-bound [] e = refl
-none-bound (p ∷ ps) e = absurd (omega arith)
+use Rattle.rules.specs.Forms.{forms}
+use Rattle.layout.specs.Forms.{says}
 
 pub some-bound : (ps : List Param) → (ps ≡ [] → ⊥) → 0 < length ps
 some-bound [] e = absurd (e refl)
 some-bound (p ∷ ps) e = omega arith
 
-module _ (s : List ℕ) (t : ℕ) where
+module _ (s : List (List ℕ)) (t : ℕ) where
   pub elem-list : form_no (says s t) ≡ 4 → elem_of (forms s t) ≡ result_no (says s t)
   unfolding form_of form_row elem_of says
   elem-list e = rw e refl
@@ -40,7 +36,7 @@ module _ (s : List ℕ) (t : ℕ) where
   pub elem-none : (form_no (says s t) ≡ 4 → ⊥) → elem_of (forms s t) ≡ 0
   unfolding form_of form_row elem_of says
   elem-none e =
-      let r = get_or (type_table s) t [] in
+      let r = get_or s t [] in
       rw (ne_eqb (form_no r) 4 e)
       (elem-other (eqb (form_no r) 1) (eqb (form_no r) 2) (eqb (form_no r) 3) (eqb (form_no r) 5) (eqb (form_no r) 6) (eqb (form_no r) 7) (f_tuple (types (parts r))) (f_fun ntv (parts r) (result_no r)) (f_fun frn (parts r) (result_no r)) refl refl refl)
 

@@ -13,7 +13,6 @@ use Rattle.reduce.proofs.Bound.{bounds-first, bounds-more}
 
 -- of n trees from row `first` on, where the first k begin and end: the next one begins at row `at`
 pub record Bounded (rows : List ℕ) (first n : ℕ) (bounds : List ℕ) (at k : ℕ) : Type 0 where
-  pub some : k ≤ n
   pub long : length bounds ≡ 9
   pub here : at ≡ first + sizes (grove (term_rows rows) first k)
   pub places : (j : ℕ) → j ≤ k → get_or bounds j 0 ≡ first + sizes (grove (term_rows rows) first j)
@@ -23,7 +22,6 @@ module _ (rows : List ℕ) (first n : ℕ) where
   none-bounded bounds e =
       let z : first ≡ first + sizes (grove (term_rows rows) first 0) = omega (arith, grove-none (term_rows rows) first) in
       record {
-        some = omega arith;
         long = length-set bounds 0 first ∙ e;
         here = z;
         places = bounds-first bounds first (λ (j : ℕ). first + sizes (grove (term_rows rows) first j)) (omega arith) z;
@@ -38,7 +36,6 @@ module _ (rows : List ℕ) (first n : ℕ) where
     one-bounded e h few q =
         let z = arg-next (term_rows rows) first k at e b.here q in
         record {
-          some = omega arith;
           long = length-set bounds (k + 1) e ∙ b.long;
           here = z;
           places = bounds-more bounds k e (λ (j : ℕ). first + sizes (grove (term_rows rows) first j)) (omega (arith, b.long)) b.places z;

@@ -2,19 +2,20 @@
 use Prim.Native.Nat.{ℕ, zero, suc, ◌+◌, ◌*◌, ◌-◌, ◌≤◌, ◌<◌}
 use mathlib.Core.Path.{◌≡◌, refl, ap, sym, ◌∙◌}
 use mathlib.Core.List.{List, [], ◌∷◌, ◌++◌, map}
-use mathlib.Core.Option.{some}
+use Rattle.std.specs.Prelude.{Option, None, Some, IfSome}
 use native.Mathlib.Omega.{arith}
-use lib.ListN.{length, get_or, take, drop, length-append, take-append-drop}
-use lib.Seq.{take-nil, take-take, take_at, get_or-take, length-take-le}
+use lib.ListN.{length, get_or, take, drop, take-append-drop}
+use lib.Seq.{take-nil, take-take, get_or-take, length-take-le}
 use Rattle.layout.specs.Rows.{row_table}
 use Rattle.layout.proofs.Tables.{row-table-take, row-table-length}
+use Rattle.layout.specs.declared.kinds.Kind.{Kind}
+use Rattle.layout.specs.Kinds.{number_of}
 use Rattle.meaning.specs.Types.{Form}
 use Rattle.meaning.specs.Terms.{Tree, Forest, more, Row, flat, size, sizes, raw, row_of, kind_no, n_no, type_no, trees, top, tree_of, tree_at, grove, kids}
 use Rattle.meaning.proofs.Trees.Parse.{trees-flat, grove-more, tree-at-zero}
 use Rattle.meaning.proofs.Bytes.RowTables.{rows-raw}
 use Rattle.terms.proofs.Scan.{grove-size, size-some}
-use Rattle.put.specs.declared.Pass.{Pass}
-use Rattle.put.specs.declared.Pass.TheVariants.{Made, Unknown}
+use Rattle.put.specs.declared.Made.{Made}
 use Rattle.put.proofs.Meets.{stands}
 use Rattle.reduce.specs.Rule.{rule_of, Front, Redex}
 use Rattle.reduce.specs.Plan.{row_no, rule_rows, Plans, ZipsFrom}
@@ -108,10 +109,10 @@ module _ (rows : List ℕ) (R : Front rows) (old : ℕ) (x : List ℕ) (o : old 
   row_cut i h = ap (λ (l : List (List ℕ)). row_no l i) table-cut ∙ get_or-take old T i [] h
 
   -- what is made of them is made of the tree
-  pub cut-made : (form : ℕ → Form) (to : List (List ℕ)) (p : Pass) → MadeAtOnce form (row_table x) to p → MadeAtOnce form T to p
-  unfolding MadeAtOnce
-  cut-made form to Unknown m = tt
-  cut-made form to (Made a b) (f, (u, r, n, t)) = (f ∙ ap size cut-tree, (u, ap (rule_of form) (sym cut-tree) ∙ r, n, t))
+  pub cut-made : (form : ℕ → Form) (to : List (List ℕ)) (o : Option Made) → IfSome o (λ m. MadeAtOnce form (row_table x) to m) → IfSome o (λ m. MadeAtOnce form T to m)
+  cut-made form to None c = tt
+  cut-made form to (Some m) c =
+      record { whole = c.whole ∙ ap size cut-tree; made = c.made; rule = ap (rule_of form) (sym cut-tree) ∙ c.rule; count = c.count; front = c.front }
 
   -- a call of a zip
   module _ (e : kind_no (row_no T 0) ≡ 8) (q : kind_no (row_no T 1) ≡ 15) (first n : ℕ) (g : first ≡ 1 + size (tree_at (map row_of T) 1)) (i : n ≡ n_no (row_no T 0)) (few : n ≤ 8) where
@@ -157,11 +158,6 @@ module _ (rows : List ℕ) (R : Front rows) (old : ℕ) (x : List ℕ) (o : old 
       },
     )
 
--- NEW ROWS at the front of a table
-pub front-lent : (to y : List ℕ) (n : ℕ) → 8 * n ≤ length to → length y ≡ 8 * n → (x : List (List ℕ)) → row_table y ≡ x → take n (row_table (y ++ drop (8 * n) to)) ≡ x
-front-lent to y n h k x e =
-    sym (row-table-take (y ++ drop (8 * n) to) n (omega (arith, k, length-append y (drop (8 * n) to)))) ∙ ap row_table (take_at y (drop (8 * n) to) (8 * n) k) ∙ e
-
-pub leaf-planned : (form : ℕ → Form) (l : List (List ℕ)) (k : ℕ) → Plans form l (Leaf k) → rule_rows form l ≡ some ((k ∷ 0 ∷ type_no (row_no l 0) ∷ 0 ∷ []) ∷ [])
+pub leaf-planned : (form : ℕ → Form) (l : List (List ℕ)) (k : Kind) → Plans form l (Leaf k) → rule_rows form l ≡ Some ((number_of k ∷ 0 ∷ type_no (row_no l 0) ∷ 0 ∷ []) ∷ [])
 unfolding Plans
 leaf-planned form l k p = p

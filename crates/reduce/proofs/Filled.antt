@@ -65,20 +65,6 @@ module _ (form : ℕ → Form) (l : List (List ℕ)) (tail : ℕ) (h : 2 ≤ tai
 pub part_length : (l : List (List ℕ)) (from k : ℕ) → from + k ≤ length l → length (take k (drop from l)) ≡ k
 part_length l from k h = length-take-le k (drop from l) (rw length-drop (omega arith))
 
--- a row, some rows, and a half behind what stood
-pub side-filled : (a b c d X A H : List (List ℕ)) (x : List ℕ) (w i p q r : ℕ) → take w a ≡ X → length A ≡ i → p ≡ w + 1 → q ≡ w + 1 + i → w + 1 + i ≤ length a → length b ≡ length a → length c ≡ length a
-    → b ≡ set a w x → c ≡ take p b ++ (A ++ drop (p + i) b) → take r d ≡ take q c ++ H → take r d ≡ X ++ (x ∷ (A ++ H))
-side-filled a b c d X A H x w i p q r e la pe qe room nb nc eb ec ed =
-    let s1 : take (w + 1) b ≡ X ++ (x ∷ []) = filled_row a b X w x e (omega (arith, room)) eb in
-    let s1' : take p b ≡ X ++ (x ∷ []) = ap (λ (k : ℕ). take k b) pe ∙ s1 in
-    let s2 = filled-rows b c (X ++ (x ∷ [])) A p i s1' (omega (arith, room, nb, pe)) la ec in
-    let z : q ≡ p + i = omega (arith, pe, qe) in
-    ed
-    ∙ ap (λ (k : ℕ). take k c ++ H) z
-    ∙ ap (λ (v : List (List ℕ)). v ++ H) s2
-    ∙ append_assoc (X ++ (x ∷ [])) A H
-    ∙ append_assoc X (x ∷ []) (A ++ H)
-
 module _ (form : ℕ → Form) (l : List (List ℕ)) (first : ℕ) (h : 2 ≤ first) (k : first ≤ length l) where
   pub zip_length : length (zip_rows form l first) ≡ 3 + (first - 2) + length (half_rows form l 1 first) + (first - 1) + length (half_rows form l 2 first)
   unfolding zip_rows

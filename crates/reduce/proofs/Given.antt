@@ -3,7 +3,7 @@ use Prim.Native.Nat.{ℕ, zero, suc, ◌+◌, ◌≤◌, ◌<◌, min}
 use mathlib.Core.Path.{◌≡◌, refl, ap, sym, ◌∙◌}
 use mathlib.Core.Bool.{true, false}
 use mathlib.Core.List.{List, [], ◌∷◌, map, append-nil}
-use mathlib.Core.Option.{none, some}
+use Rattle.std.specs.Prelude.{None, Some}
 use native.Mathlib.Omega.{arith}
 use lib.ListN.{length, get_or, take, length-take}
 use lib.Seq.{take_all}
@@ -20,22 +20,22 @@ use Rattle.put.proofs.Meets.{stands, rows-put}
 use Rattle.reduce.specs.Rule.{quiet, rule_of}
 use Rattle.reduce.specs.Plan.{rows_of, row_no, rule_rows, TiesAt, CallsAt, Plans}
 use Rattle.reduce.specs.Given.{tie_row, EndsArgs, PutsRule}
-use Rattle.reduce.specs.declared.Plan.TheVariants.{Stays, Tie}
+use Rattle.reduce.specs.declared.Plan.TheVariants.{Stays}
 use Rattle.reduce.proofs.Roots.{grove-one, grove-two, tree-grove, grove-part, grove-last, kind-is, type-is, made_as, sized-as, root, root-size}
 use Rattle.meaning.proofs.Trees.Parse.{grove-more}
 
 -- Steps by tests -------------------------------------------------------------------------------------------------
 
-let-goes : (form : ℕ → Form) (x : ℕ) (a b : Tree) → quiet (let_step form x a b) ≡ some (put form (assign (record { name = x; type = ty_of a } ∷ []) (more a end)) b)
+let-goes : (form : ℕ → Form) (x : ℕ) (a b : Tree) → quiet (let_step form x a b) ≡ Some (put form (assign (record { name = x; type = ty_of a } ∷ []) (more a end)) b)
 unfolding let_step quiet
 let-goes form x a b = refl
 
-pub call-goes : {n : ℕ} (form : ℕ → Form) (u : ℕ) (c : Tree) (args : Forest n) → is 6 c ≡ true → quiet (apply_step form 0 u c args) ≡ some (put form (assign (params (form (ty_of c))) args) (kid 1 c))
+pub call-goes : {n : ℕ} (form : ℕ → Form) (u : ℕ) (c : Tree) (args : Forest n) → is 6 c ≡ true → quiet (apply_step form 0 u c args) ≡ Some (put form (assign (params (form (ty_of c))) args) (kid 1 c))
 unfolding apply_step quiet
 call-goes form u c args e = rw e refl
 
 module _ (form : ℕ → Form) (u : ℕ) (c : Tree) where
-  fix-stays : is 6 c ≡ false → quiet (fix_step form u c) ≡ none
+  fix-stays : is 6 c ≡ false → quiet (fix_step form u c) ≡ None
   unfolding fix_step quiet
   fix-stays e = rw e refl
 
@@ -44,12 +44,12 @@ module _ (form : ℕ → Form) (u : ℕ) (c : Tree) where
   fix-ties e = rw e refl
 
   -- a function without a name, and one with a first name
-  tie-stays : (ps : List Param) → ps ≡ [] → quiet (tie form u c ps) ≡ none
+  tie-stays : (ps : List Param) → ps ≡ [] → quiet (tie form u c ps) ≡ None
   unfolding tie quiet
   tie-stays ps e = rw e refl
 
   pub tie-goes : (ps : List Param) → (ps ≡ [] → ⊥) → (p : Param) × (take 1 (names ps) ≡ p.name ∷ [])
-      × (quiet (tie form u c ps) ≡ some (node lambda u (more (put form (assign (p ∷ []) (more (node fix u (more c end)) end)) (kid 1 c)) end)))
+      × (quiet (tie form u c ps) ≡ Some (node lambda u (more (put form (assign (p ∷ []) (more (node fix u (more c end)) end)) (kid 1 c)) end)))
   unfolding tie quiet names
   tie-goes [] e = absurd (e refl)
   tie-goes (p ∷ ps) e = (p, refl, refl)
@@ -93,26 +93,26 @@ module _ (l : List (List ℕ)) (exact : map raw (map row_of l) ≡ l) (inside : 
       pub let-whole : body + size (tree_at L body) ≡ size (tree_of L)
       let-whole = ap (λ (x : ℕ). x + size (tree_at L x)) g ∙ sym let-size
 
-      let-goes-to : (form : ℕ → Form) → rule_of form (tree_of L) ≡ some (put form (assign (record { name = W 0; type = ty_of (tree_at L 1) } ∷ []) (more (tree_at L 1) end)) (tree_at L body))
+      let-goes-to : (form : ℕ → Form) → rule_of form (tree_of L) ≡ Some (put form (assign (record { name = W 0; type = ty_of (tree_at L 1) } ∷ []) (more (tree_at L 1) end)) (tree_at L body))
       unfolding rule_of contract
       let-goes-to form =
           let a = tree_at L 1 in
           let t : tree_of L ≡ node (bind (W 0)) (U 0) (more a (more (tree_at L body) end)) = root l inside (bind (W 0)) head-let ∙ ap (node (bind (W 0)) (U 0)) (grove-two L 1) ∙ ap (λ (x : ℕ). node (bind (W 0)) (U 0) (more a (more (tree_at L x) end))) (sym g) in
           ap (rule_of form) t ∙ let-goes form (W 0) a (tree_at L body)
 
-      pub let-rows : (form : ℕ → Form) (bs : List ℕ) → rule_rows form l ≡ some (put_rows form l body (W 0 ∷ []) (1 ∷ body ∷ bs))
+      pub let-rows : (form : ℕ → Form) (bs : List ℕ) → rule_rows form l ≡ Some (put_rows form l body (W 0 ∷ []) (1 ∷ body ∷ bs))
       unfolding rows_of names tree
       let-rows form bs =
           let a = tree_at L 1 in
           let p : Param = record { name = W 0; type = ty_of a } in
           let r = rows-put l exact {n = 1} form body (1 ∷ body ∷ bs) (p ∷ []) (more a end) (omega (arith, let-whole)) (λ j h. bound-stands j h) in
-          ap rows_of (let-goes-to form) ∙ ap some (sym r)
+          ap rows_of (let-goes-to form) ∙ ap Some (sym r)
         where
           bound-stands : (j : ℕ) → j < 1 → standing l (get_or (1 ∷ body ∷ bs) j 0) (get_or (1 ∷ body ∷ bs) (j + 1) 0) ≡ map raw (flat (tree (more (tree_at L 1) end) j))
           bound-stands zero h = stands l exact 1 body g (omega (arith, let-whole))
           bound-stands (suc j) h = absurd (omega arith)
 
-    pub let-goes-at : (form : ℕ → Form) → rule_of form (tree_of L) ≡ some (put form (assign (record { name = W 0; type = ty_of (tree_at L 1) } ∷ []) (more (tree_at L 1) end)) (tree_at L (1 + size (tree_at L 1))))
+    pub let-goes-at : (form : ℕ → Form) → rule_of form (tree_of L) ≡ Some (put form (assign (record { name = W 0; type = ty_of (tree_at L 1) } ∷ []) (more (tree_at L 1) end)) (tree_at L (1 + size (tree_at L 1))))
     let-goes-at form = let-goes-to (1 + size (tree_at L 1)) refl form
 
   -- Fix
@@ -156,15 +156,11 @@ module _ (l : List (List ℕ)) (exact : map raw (map row_of l) ≡ l) (inside : 
       unfolding Plans rows_of
       plan-nameless form z = ap rows_of (tied form ∙ tie-stays form (U 0) (tree_at L 1) (params (form (U 1))) z)
 
-      pub plan-tie : (form : ℕ → Form) → (params (form (U 1)) ≡ [] → ⊥) → Plans form l Tie
-      unfolding Plans
-      plan-tie form z = (e, q, z)
-
       pub tie-whole : 2 + size (tree_at L 2) ≡ size (tree_of L)
       tie-whole = omega (arith, fix-size, sized-as l 1 fix-more lambda head-lambda, grove-size L 2 0, grove-none L (2 + size (tree_at L 2)))
 
       pub tie-rows : (form : ℕ → Form) (x n : ℕ) (bs : List ℕ) → take 1 (names (params (form (U 1)))) ≡ x ∷ [] → (params (form (U 1)) ≡ [] → ⊥) → n ≡ size (tree_of L)
-          → rule_rows form l ≡ some ((6 ∷ 0 ∷ U 0 ∷ 0 ∷ []) ∷ put_rows form l 2 (x ∷ []) (0 ∷ n ∷ bs))
+          → rule_rows form l ≡ Some ((6 ∷ 0 ∷ U 0 ∷ 0 ∷ []) ∷ put_rows form l 2 (x ∷ []) (0 ∷ n ∷ bs))
       unfolding rows_of names tree kid child nth swap
       tie-rows form x n bs nm some-name ln =
           let (p, np, go-tie) = tie-goes form (U 0) (tree_at L 1) (params (form (U 1))) some-name in
@@ -172,11 +168,11 @@ module _ (l : List (List ℕ)) (exact : map raw (map row_of l) ≡ l) (inside : 
           let k1 : kid 1 (tree_at L 1) ≡ tree_at L 2 = ap (kid 1) function-made in
           let r = rows-put l exact {n = 1} form 2 (0 ∷ n ∷ bs) (p ∷ []) (more (tree_of L) end) (omega (arith, tie-whole)) (λ j h. fix-stands j h) in
           ap rows_of (tied form ∙ go-tie)
-          ∙ ap some (lambda-rows (U 0) (put form (assign (p ∷ []) (more (node fix (U 0) (more (tree_at L 1) end)) end)) (kid 1 (tree_at L 1))))
-          ∙ ap (λ (t : Tree). some ((6 ∷ 0 ∷ U 0 ∷ 0 ∷ []) ∷ map raw (flat (put form (assign (p ∷ []) (more t end)) (kid 1 (tree_at L 1)))))) (sym fix-made)
-          ∙ ap (λ (t : Tree). some ((6 ∷ 0 ∷ U 0 ∷ 0 ∷ []) ∷ map raw (flat (put form (assign (p ∷ []) (more (tree_of L) end)) t)))) k1
-          ∙ ap (λ (rs : List (List ℕ)). some ((6 ∷ 0 ∷ U 0 ∷ 0 ∷ []) ∷ rs)) (sym r)
-          ∙ ap (λ (y : ℕ). some ((6 ∷ 0 ∷ U 0 ∷ 0 ∷ []) ∷ put_rows form l 2 (y ∷ []) (0 ∷ n ∷ bs))) (sym same)
+          ∙ ap Some (lambda-rows (U 0) (put form (assign (p ∷ []) (more (node fix (U 0) (more (tree_at L 1) end)) end)) (kid 1 (tree_at L 1))))
+          ∙ ap (λ (t : Tree). Some ((6 ∷ 0 ∷ U 0 ∷ 0 ∷ []) ∷ map raw (flat (put form (assign (p ∷ []) (more t end)) (kid 1 (tree_at L 1)))))) (sym fix-made)
+          ∙ ap (λ (t : Tree). Some ((6 ∷ 0 ∷ U 0 ∷ 0 ∷ []) ∷ map raw (flat (put form (assign (p ∷ []) (more (tree_of L) end)) t)))) k1
+          ∙ ap (λ (rs : List (List ℕ)). Some ((6 ∷ 0 ∷ U 0 ∷ 0 ∷ []) ∷ rs)) (sym r)
+          ∙ ap (λ (y : ℕ). Some ((6 ∷ 0 ∷ U 0 ∷ 0 ∷ []) ∷ put_rows form l 2 (y ∷ []) (0 ∷ n ∷ bs))) (sym same)
         where
           fix-stands : (j : ℕ) → j < 1 → standing l (get_or (0 ∷ n ∷ bs) j 0) (get_or (0 ∷ n ∷ bs) (j + 1) 0) ≡ map raw (flat (tree (more (tree_of L) end) j))
           fix-stands zero h =
@@ -244,15 +240,15 @@ module _ (l : List (List ℕ)) (exact : map raw (map row_of l) ≡ l) (inside : 
               ∙ stands l exact at (get_or bs (j + 1) 0) b (call-within j h).1
               ∙ ap (λ (t : Tree). map raw (flat t)) (sym (tree-grove L j first (N 0) (omega arith)))
 
-          pub call_rows : rule_rows form l ≡ some (put_rows form l 2 (take (N 0) (names (params (form (U 1))))) bs)
+          pub call_rows : rule_rows form l ≡ Some (put_rows form l 2 (take (N 0) (names (params (form (U 1))))) bs)
           unfolding rows_of kid child nth swap
           call_rows =
               let r = rows-put l exact {n = N 0} form 2 bs (params (form (U 1))) (grove L first (N 0)) call-whole arg-stands in
               ap rows_of (call-rule form ∙ call-goes form (U 0) (tree_at L 1) (grove L F (N 0)) (kind-is l 1 call-more 6 (omega arith) (omega arith) ∙ eq-eqb (K 1) 6 q))
-              ∙ ap (λ (x : ℕ). some (map raw (flat (put form (assign (params (form (ty_of (tree_at L 1)))) (grove L x (N 0))) (kid 1 (tree_at L 1)))))) (sym g)
-              ∙ ap (λ (x : ℕ). some (map raw (flat (put form (assign (params (form x)) (grove L first (N 0))) (kid 1 (tree_at L 1)))))) (type-is l 1 call-more)
-              ∙ ap (λ (t : Tree). some (map raw (flat (put form (assign (params (form (U 1))) (grove L first (N 0))) (kid 1 t))))) called-made
-              ∙ ap some (sym r)
+              ∙ ap (λ (x : ℕ). Some (map raw (flat (put form (assign (params (form (ty_of (tree_at L 1)))) (grove L x (N 0))) (kid 1 (tree_at L 1)))))) (sym g)
+              ∙ ap (λ (x : ℕ). Some (map raw (flat (put form (assign (params (form x)) (grove L first (N 0))) (kid 1 (tree_at L 1)))))) (type-is l 1 call-more)
+              ∙ ap (λ (t : Tree). Some (map raw (flat (put form (assign (params (form (U 1))) (grove L first (N 0))) (kid 1 t))))) called-made
+              ∙ ap Some (sym r)
 
 -- What code hands on ---------------------------------------------------------------------------------------------
 

@@ -3,11 +3,12 @@ use Prim.Native.Nat.{ℕ, zero, suc, ◌+◌, ◌-◌, ◌≤◌, ◌<◌}
 use mathlib.Core.Path.{◌≡◌, refl, ap, sym, ◌∙◌}
 use mathlib.Core.Bool.{true, false}
 use mathlib.Core.List.{List, [], ◌∷◌, ◌++◌, map, append-nil, map-append}
-use mathlib.Core.Option.{Option, none, some}
+use Rattle.std.specs.Prelude.{Option, None, Some}
 use native.Mathlib.Omega.{arith}
 use lib.Dec.{eqb}
 use lib.ListN.{length}
 use borrow.Author.Tests.{eq-eqb, ne_eqb}
+use Rattle.layout.specs.declared.kinds.Kind.TheVariants as kind
 use Rattle.meaning.specs.Types.{Form, elem_of}
 use Rattle.meaning.specs.Terms.{str, file, truth, Head, lit, var, lambda, foreign, apply, future, ite, fix, nil, cons, isnil, zip, tuple, project, lproject, bind, arity, code, n_of, word_of, head_from, Tree, Forest, node, end, more, is, Row, flat, size, sizes, raw, row_of, kind_no, n_no, type_no, word_no, tree_of, tree_at, grove}
 use Rattle.meaning.specs.Steps.{nth, child, kid, swap, become, if_step, isnil_step, project_step, lproject_step, contract}
@@ -22,56 +23,56 @@ use Rattle.reduce.proofs.Roots.{whole_in, grove-one, grove-two, grove-three, nth
 -- Steps by tests -------------------------------------------------------------------------------------------------
 
 module _ (c a b : Tree) where
-  pub if-then : is 3 c ≡ true → quiet (if_step c a b) ≡ some a
+  pub if-then : is 3 c ≡ true → quiet (if_step c a b) ≡ Some a
   unfolding if_step quiet
   if-then e = rw e refl
 
-  pub if-else : is 3 c ≡ false → is 4 c ≡ true → quiet (if_step c a b) ≡ some b
+  pub if-else : is 3 c ≡ false → is 4 c ≡ true → quiet (if_step c a b) ≡ Some b
   unfolding if_step quiet
   if-else e g = rw (e, g) refl
 
-  if_none : is 3 c ≡ false → is 4 c ≡ false → quiet (if_step c a b) ≡ none
+  if_none : is 3 c ≡ false → is 4 c ≡ false → quiet (if_step c a b) ≡ None
   unfolding if_step quiet
   if_none e g = rw (e, g) refl
 
 module _ (u : ℕ) (c : Tree) where
-  isnil-nil : is 12 c ≡ true → quiet (isnil_step u c) ≡ some (node (lit (truth true)) u end)
+  isnil-nil : is 12 c ≡ true → quiet (isnil_step u c) ≡ Some (node (lit (truth true)) u end)
   unfolding isnil_step quiet
   isnil-nil e = rw e refl
 
-  isnil-cons : is 12 c ≡ false → is 13 c ≡ true → quiet (isnil_step u c) ≡ some (node (lit (truth false)) u end)
+  isnil-cons : is 12 c ≡ false → is 13 c ≡ true → quiet (isnil_step u c) ≡ Some (node (lit (truth false)) u end)
   unfolding isnil_step quiet
   isnil-cons e g = rw (e, g) refl
 
-  isnil-none : is 12 c ≡ false → is 13 c ≡ false → quiet (isnil_step u c) ≡ none
+  isnil-none : is 12 c ≡ false → is 13 c ≡ false → quiet (isnil_step u c) ≡ None
   unfolding isnil_step quiet
   isnil-none e g = rw (e, g) refl
 
 quiet-become : (o : Option Tree) → quiet (become o) ≡ o
 unfolding quiet become
-quiet-become none = refl
-quiet-become (some t) = refl
+quiet-become None = refl
+quiet-become (Some t) = refl
 
 module _ (i : ℕ) (c : Tree) where
   pub project-tuple : is 16 c ≡ true → quiet (project_step i c) ≡ child i c
   unfolding project_step
   project-tuple e = rw e (quiet-become (child i c))
 
-  project-none : is 16 c ≡ false → quiet (project_step i c) ≡ none
+  project-none : is 16 c ≡ false → quiet (project_step i c) ≡ None
   unfolding project_step quiet
   project-none e = rw e refl
 
 module _ (form : ℕ → Form) (i u : ℕ) (c : Tree) where
-  lproject-nil : is 12 c ≡ true → quiet (lproject_step form i u c) ≡ some (node nil u end)
+  lproject-nil : is 12 c ≡ true → quiet (lproject_step form i u c) ≡ Some (node nil u end)
   unfolding lproject_step quiet
   lproject-nil e = rw e refl
 
   lproject-cons : is 12 c ≡ false → is 13 c ≡ true
-      → quiet (lproject_step form i u c) ≡ some (node cons u (more (node (project i) (elem_of (form u)) (more (kid 1 c) end)) (more (node (lproject i) u (more (kid 2 c) end)) end)))
+      → quiet (lproject_step form i u c) ≡ Some (node cons u (more (node (project i) (elem_of (form u)) (more (kid 1 c) end)) (more (node (lproject i) u (more (kid 2 c) end)) end)))
   unfolding lproject_step quiet
   lproject-cons e g = rw (e, g) refl
 
-  lproject-none : is 12 c ≡ false → is 13 c ≡ false → quiet (lproject_step form i u c) ≡ none
+  lproject-none : is 12 c ≡ false → is 13 c ≡ false → quiet (lproject_step form i u c) ≡ None
   unfolding lproject_step quiet
   lproject-none e g = rw (e, g) refl
 
@@ -86,7 +87,7 @@ pair-rows u elem i a b =
 -- no rule but these reduces
 module _ (form : ℕ → Form) (u : ℕ) where
   rest-stays : (h : Head) (f : Forest (arity h)) → eqb (code h) 8 ≡ false → eqb (code h) 10 ≡ false → eqb (code h) 11 ≡ false → eqb (code h) 14 ≡ false → eqb (code h) 17 ≡ false → eqb (code h) 18 ≡ false → eqb (code h) 19 ≡ false
-      → rule_of form (node h u f) ≡ none
+      → rule_of form (node h u f) ≡ None
   unfolding rule_of contract quiet code
   rest-stays (lit (str w)) f a b c d e g i = refl
   rest-stays (lit (file w)) f a b c d e g i = refl
@@ -170,7 +171,7 @@ module _ (l : List (List ℕ)) (exact : map raw (map row_of l) ≡ l) (one : siz
         let z = true-size q in
         let i : is 3 (tree_at L 1) ≡ true = kind-is l 1 if-more 3 (omega arith) (omega arith) ∙ eq-eqb (K 1) 3 q in
         let s : length l ≡ 2 + size (tree_at L 2) + size (tree_at L (2 + size (tree_at L 2))) = rw z at if-size in
-        (ap rows_of (if-rule form ∙ if-then (tree_at L 1) (tree_at L A) (tree_at L (A + size (tree_at L A))) i) ∙ ap (λ (x : ℕ). some (map raw (flat (tree_at L x)))) z ∙ ap some (sym (stands l exact 2 to g (omega (arith, s, g)))), omega (arith, g), omega (arith, s, g))
+        (ap rows_of (if-rule form ∙ if-then (tree_at L 1) (tree_at L A) (tree_at L (A + size (tree_at L A))) i) ∙ ap (λ (x : ℕ). Some (map raw (flat (tree_at L x)))) z ∙ ap Some (sym (stands l exact 2 to g (omega (arith, s, g)))), omega (arith, g), omega (arith, s, g))
 
     pub plan-else : (form : ℕ → Form) → (from to : ℕ) → K 1 ≡ 4 → from ≡ 2 + size (tree_at L 2) → to ≡ length l → Plans form l (Part from to)
     unfolding Plans rows_of
@@ -181,7 +182,7 @@ module _ (l : List (List ℕ)) (exact : map raw (map row_of l) ≡ l) (one : siz
         let s : length l ≡ 2 + size (tree_at L 2) + size (tree_at L (2 + size (tree_at L 2))) = rw z at if-size in
         let b : A + size (tree_at L A) ≡ from = ap (λ (x : ℕ). x + size (tree_at L x)) z ∙ sym g in
         let t : to ≡ from + size (tree_at L from) = h ∙ s ∙ ap (λ (x : ℕ). x + size (tree_at L x)) (sym g) in
-        (ap rows_of (if-rule form ∙ if-else (tree_at L 1) (tree_at L A) (tree_at L (A + size (tree_at L A))) i j) ∙ ap (λ (x : ℕ). some (map raw (flat (tree_at L x)))) b ∙ ap some (sym (stands l exact from to t (omega (arith, h)))), omega (arith, t), omega (arith, h))
+        (ap rows_of (if-rule form ∙ if-else (tree_at L 1) (tree_at L A) (tree_at L (A + size (tree_at L A))) i j) ∙ ap (λ (x : ℕ). Some (map raw (flat (tree_at L x)))) b ∙ ap Some (sym (stands l exact from to t (omega (arith, h)))), omega (arith, t), omega (arith, h))
 
     pub plan-unless : (form : ℕ → Form) → (K 1 ≡ 3 → ⊥) → (K 1 ≡ 4 → ⊥) → Plans form l Stays
     unfolding Plans rows_of
@@ -218,11 +219,11 @@ module _ (l : List (List ℕ)) (exact : map raw (map row_of l) ≡ l) (one : siz
     pub isnil-more : 1 < length l
     isnil-more = one_more isnil refl head-isnil
 
-    pub plan-yes : (form : ℕ → Form) → K 1 ≡ 12 → Plans form l (Leaf 3)
+    pub plan-yes : (form : ℕ → Form) → K 1 ≡ 12 → Plans form l (Leaf kind.True)
     unfolding Plans rows_of flat raw code n_of word_of
     plan-yes form q = ap rows_of (isnil-rule form ∙ isnil-nil (U 0) (tree_at L 1) (kind-is l 1 isnil-more 12 (omega arith) (omega arith) ∙ eq-eqb (K 1) 12 q))
 
-    pub plan-no : (form : ℕ → Form) → K 1 ≡ 13 → Plans form l (Leaf 4)
+    pub plan-no : (form : ℕ → Form) → K 1 ≡ 13 → Plans form l (Leaf kind.False)
     unfolding Plans rows_of flat raw code n_of word_of
     plan-no form q =
         ap rows_of (isnil-rule form ∙ isnil-cons (U 0) (tree_at L 1) (kind-is l 1 isnil-more 12 (omega arith) (omega arith) ∙ ne_eqb (K 1) 12 (λ p. omega (arith, p, q))) (kind-is l 1 isnil-more 13 (omega arith) (omega arith) ∙ eq-eqb (K 1) 13 q))
@@ -291,12 +292,12 @@ module _ (l : List (List ℕ)) (exact : map raw (map row_of l) ≡ l) (one : siz
         unfolding Plans rows_of
         plan-element form at to g h =
             let r = element-in at g in (
-              ap rows_of (tuple-rule form ∙ found (N 0) (N 1) some-place inside) ∙ ap (λ (x : ℕ). some (map raw (flat (tree_at L x)))) (sym g) ∙ ap some (sym (stands l exact at to h (omega (arith, h, r)))),
+              ap rows_of (tuple-rule form ∙ found (N 0) (N 1) some-place inside) ∙ ap (λ (x : ℕ). Some (map raw (flat (tree_at L x)))) (sym g) ∙ ap Some (sym (stands l exact at to h (omega (arith, h, r)))),
               omega (arith, h),
               omega (arith, h, r),
             )
           where
-            found : (i n : ℕ) → (i ≡ 0 → ⊥) → i ≤ n → nth i (grove L 2 n) ≡ some (tree_at L (2 + sizes (grove L 2 (i - 1))))
+            found : (i n : ℕ) → (i ≡ 0 → ⊥) → i ≤ n → nth i (grove L 2 n) ≡ Some (tree_at L (2 + sizes (grove L 2 (i - 1))))
             found zero n z h = absurd (z refl)
             found (suc i) n z h = let m : suc i - 1 ≡ i = omega arith in rw m (nth-grove L i 2 n (omega arith))
 
@@ -313,7 +314,7 @@ module _ (l : List (List ℕ)) (exact : map raw (map row_of l) ≡ l) (one : siz
     pub lproject-more : 1 < length l
     lproject-more = one_more (lproject (N 0)) refl head-lproject
 
-    pub plan-empty : (form : ℕ → Form) → K 1 ≡ 12 → Plans form l (Leaf 12)
+    pub plan-empty : (form : ℕ → Form) → K 1 ≡ 12 → Plans form l (Leaf kind.Nil)
     unfolding Plans rows_of flat raw code n_of word_of
     plan-empty form q = ap rows_of (lproject-rule form ∙ lproject-nil form (N 0) (U 0) (tree_at L 1) (kind-is l 1 lproject-more 12 (omega arith) (omega arith) ∙ eq-eqb (K 1) 12 q))
 
@@ -345,8 +346,8 @@ module _ (l : List (List ℕ)) (exact : map raw (map row_of l) ≡ l) (one : siz
           let j : is 13 (tree_at L 1) ≡ true = kind-is l 1 lproject-more 13 (omega arith) (omega arith) ∙ eq-eqb (K 1) 13 q in
           let m : tree_at L 1 ≡ node cons (U 1) (more (tree_at L 2) (more (tree_at L tail) end)) = cons-made ∙ ap (λ (x : ℕ). node cons (U 1) (more (tree_at L 2) (more (tree_at L x) end))) (sym g) in (
             ap rows_of (lproject-rule form ∙ lproject-cons form (N 0) (U 0) (tree_at L 1) i j)
-                ∙ ap (λ (c : Tree). some (map raw (flat (node cons (U 0) (more (node (project (N 0)) (elem_of (form (U 0))) (more (kid 1 c) end)) (more (node (lproject (N 0)) (U 0) (more (kid 2 c) end)) end)))))) m
-                ∙ ap some (pair-rows (U 0) (elem_of (form (U 0))) (N 0) (tree_at L 2) (tree_at L tail))
+                ∙ ap (λ (c : Tree). Some (map raw (flat (node cons (U 0) (more (node (project (N 0)) (elem_of (form (U 0))) (more (kid 1 c) end)) (more (node (lproject (N 0)) (U 0) (more (kid 2 c) end)) end)))))) m
+                ∙ ap Some (pair-rows (U 0) (elem_of (form (U 0))) (N 0) (tree_at L 2) (tree_at L tail))
                 ∙ rw (stands l exact 2 tail g (omega (arith, t)), stands l exact tail (length l) t (omega arith)) refl,
             omega (arith, g),
             omega (arith, t),

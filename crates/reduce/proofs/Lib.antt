@@ -13,3 +13,5 @@ pub mod AtOnce
 pub mod LastBound
 pub mod Listed
 pub mod Cut
+pub mod Taking
+pub mod Zipping

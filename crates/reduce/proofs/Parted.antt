@@ -2,10 +2,9 @@
 use Prim.Native.Nat.{ℕ, suc, ◌+◌, ◌-◌, ◌/◌, ◌%◌, ◌≤◌, ◌<◌}
 use mathlib.Core.Path.{◌≡◌, refl, ap, sym, ◌∙◌}
 use mathlib.Core.Bool.{Bool, true, false, cond}
-use mathlib.Core.List.{List, [], ◌++◌, map, append_assoc, map-append}
+use mathlib.Core.List.{List, [], ◌++◌, map, map-append}
 use native.Mathlib.Omega.{arith}
-use lib.ListN.{length, get_or, take, drop, length-append}
-use lib.Seq.{take_at, length-take-le}
+use lib.ListN.{length, get_or}
 use borrow.Author.Tests.{eqb-true}
 use Rattle.meaning.specs.Bytes.{◌∧ᵇ◌}
 use Rattle.meaning.specs.Types.{low}
@@ -15,10 +14,9 @@ use Rattle.meaning.proofs.Trees.Tests.{left, right, neither-l, neither-r}
 use Rattle.terms.proofs.Scan.{grove-none, grove-size, size-some}
 use Rattle.put.specs.Put.{standing}
 use Rattle.put.proofs.Meets.{stands}
-use Rattle.put.proofs.Loops.{standing-length}
 use Rattle.put.specs.declared.Span.{Span}
 use Rattle.meaning.specs.Types.{Form}
-use Rattle.reduce.specs.Plan.{row_no, half_rows, ZipsAt}
+use Rattle.reduce.specs.Plan.{row_no, half_rows}
 use Rattle.reduce.specs.Halves.{which_half, half_of, Halves, HalfAt, BoundsAt}
 use Rattle.reduce.proofs.Roots.{grove-two, grove-last, kind-is, made_as, sized-as, arg-in, arg-next}
 use Rattle.reduce.proofs.Zipped.{low-is, low-not, ready_on, nil-on, kids-on}
@@ -162,41 +160,9 @@ module _ {l : List (List ℕ)} {first n m : ℕ} (d : Halves l first n m) {h at 
         ∙ ap (λ (x : List (List ℕ)). x ++ map raw (flats (kids_at (which_half tails) (h / 2) (grove M (at + size (tree_at M at)) (n - (j + 1)))))) (sym at-half.rows)
         ∙ ap (λ (y : ℕ). standing l s.from s.to ++ left_of l (h / 2) y n (j + 1) tails) (sym q)
 
-    pub left-length : length (left_of l h at n j tails) ≡ s.to - s.from + length (left_of l (h / 2) e n (j + 1) tails)
-    left-length =
-        ap length left-next
-        ∙ length-append (standing l s.from s.to) (left_of l (h / 2) e n (j + 1) tails)
-        ∙ ap (λ (x : ℕ). x + length (left_of l (h / 2) e n (j + 1) tails)) (standing-length l s.from s.to at-half.low_end at-half.high_end)
-
-    -- the rows copied
-    pub half-written : (x y X : List (List ℕ)) (w k : ℕ) → k ≡ s.to - s.from → w + k ≤ length x → y ≡ take w x ++ (take k (drop s.from l) ++ drop (w + k) x) → take w x ++ left_of l h at n j tails ≡ X
-        → take (w + k) y ++ left_of l (h / 2) e n (j + 1) tails ≡ X
-    half-written x y X w k kq room cp eq =
-        let P = take w x in
-        let Q = take k (drop s.from l) in
-        let R = drop (w + k) x in
-        let lp : length P ≡ w = length-take-le w x (omega arith) in
-        let lq : length Q ≡ k = ap (λ (i : ℕ). length (take i (drop s.from l))) kq ∙ standing-length l s.from s.to at-half.low_end at-half.high_end ∙ sym kq in
-        let st : Q ≡ standing l s.from s.to = ap (λ (i : ℕ). take i (drop s.from l)) kq in
-        let tk : take (w + k) y ≡ P ++ Q = ap (take (w + k)) (cp ∙ sym (append_assoc P Q R)) ∙ take_at (P ++ Q) R (w + k) (length-append P Q ∙ omega (arith, lp, lq)) in
-        ap (λ (v : List (List ℕ)). v ++ left_of l (h / 2) e n (j + 1) tails) tk
-        ∙ append_assoc P Q (left_of l (h / 2) e n (j + 1) tails)
-        ∙ ap (λ (v : List (List ℕ)). P ++ (v ++ left_of l (h / 2) e n (j + 1) tails)) st
-        ∙ ap (λ (v : List (List ℕ)). P ++ v) (sym left-next)
-        ∙ eq
-
 -- Both halves of a zip -------------------------------------------------------------------------------------------
 
 module _ (l : List (List ℕ)) (first n m : ℕ) (p : n_no (row_no l 0) ≡ n) (q : n_no (row_no l 1) ≡ m) where
-  pub zip-halves : ZipsAt l first → n ≤ 255 → Halves l first n m
-  zip-halves z h =
-      record {
-        few = h;
-        inside = rw (sym p) (omega (arith, z.whole));
-        lists = rw (sym p, sym q) z.lists;
-        full = rw (sym p, sym q) z.full;
-      }
-
   pub half-rows : (form : ℕ → Form) (tails : Bool) → half_of l first n m tails ≡ half_rows form l (which_half tails) first
   unfolding half_of half_rows
   half-rows form tails = rw (sym p, sym q) refl

@@ -3,7 +3,7 @@ use Prim.Native.Nat.{ℕ, ◌≤◌}
 use mathlib.Core.Path.{◌≡◌, refl, ap, sym, ◌∙◌, subst}
 use mathlib.Core.Bool.{Bool, true, false, cond}
 use mathlib.Core.List.{List, [], ◌∷◌, map}
-use mathlib.Core.Option.{Option, none, some}
+use Rattle.std.specs.Prelude.{Option, None, Some}
 use lib.Dec.{eqb}
 use lib.ListN.{length, get_or, length-map}
 use Rattle.layout.specs.Rows.{row_table, term_rows}
@@ -36,9 +36,9 @@ quiet-cond : (b : Bool) (o p : Out) → quiet (cond b o p) ≡ cond b (quiet o) 
 quiet-cond true o p = refl
 quiet-cond false o p = refl
 
-pub send-quiet : {n : ℕ} (k u : ℕ) (c : Tree) (args : Forest n) → quiet (send_step k u c args) ≡ none
+pub send-quiet : {n : ℕ} (k u : ℕ) (c : Tree) (args : Forest n) → quiet (send_step k u c args) ≡ None
 unfolding quiet send_step
-send-quiet k u c args = quiet-cond (values args) _ _ ∙ cond_same (values args) none
+send-quiet k u c args = quiet-cond (values args) _ _ ∙ cond_same (values args) None
 
 module _ (form : ℕ → Form) where
   apply-quiet : {n : ℕ} (k u : ℕ) (c : Tree) (args : Forest n) → quiet (apply_step form k u c args) ≡ quiet (apply_step form 0 u c args)
@@ -78,7 +78,7 @@ module _ (form : ℕ → Form) where
   still-quiet true o p x y = x
   still-quiet false o p x y = y
 
-  goes-quiet : (t : Tree) → Quiet (go none t)
+  goes-quiet : (t : Tree) → Quiet (go None t)
   unfolding quiet become
   goes-quiet t = refl
 
@@ -88,8 +88,8 @@ module _ (form : ℕ → Form) where
 
   becomes-quiet : (o : Option Tree) → Quiet (become o)
   unfolding quiet become
-  becomes-quiet none = refl
-  becomes-quiet (some t) = refl
+  becomes-quiet None = refl
+  becomes-quiet (Some t) = refl
 
   tie-quiet : (u : ℕ) (c : Tree) (ps : List Param) → Quiet (tie form u c ps)
   unfolding tie
@@ -128,10 +128,10 @@ one-range w e = by-test (within 1 65535 w) refl e
     by-test true p q = (within-if 1 65535 w p).1
     by-test false p q = let z : ◌≡◌ {A = ℕ} 0 1 = cc in absurd (omega arith)
 
-word_fits : (count : ℕ) (r : List ℕ) → row_fault version count r ≡ none → kind_no r ≡ 19 → word_no r ≤ 65535
+word_fits : (count : ℕ) (r : List ℕ) → row_fault version count r ≡ None → kind_no r ≡ 19 → word_no r ≤ 65535
 word_fits count r p k = one-range (word_no r) (ap (λ (x : ℕ). within_one (get_or kind_fields x none-used).words (word_no r)) (sym k) ∙ (in-range version count r p).word_in)
 
-args_fit : (count : ℕ) (r : List ℕ) → row_fault version count r ≡ none → kind_no r ≡ 8 → n_no r ≤ 8
+args_fit : (count : ℕ) (r : List ℕ) → row_fault version count r ≡ None → kind_no r ≡ 8 → n_no r ≤ 8
 args_fit count r p k = subst (λ (x : ℕ). n_no r ≤ (get_or kind_fields x none-used).n_high) k (in-range version count r p).n_to
 
 first-args : (count : ℕ) (x : Tree) → Every (legal count) x → kind_no (get_or (map raw (flat x)) 0 []) ≡ 8 → n_no (get_or (map raw (flat x)) 0 []) ≤ 8

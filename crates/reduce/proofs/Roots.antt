@@ -2,7 +2,7 @@
 use Prim.Native.Nat.{ℕ, zero, suc, ◌+◌, ◌≤◌, ◌<◌}
 use mathlib.Core.Path.{◌≡◌, refl, ap, sym, ◌∙◌}
 use mathlib.Core.List.{List, [], ◌∷◌, map}
-use mathlib.Core.Option.{none, some}
+use Rattle.std.specs.Prelude.{None, Some}
 use native.Mathlib.Omega.{arith}
 use lib.Dec.{eqb}
 use lib.ListN.{length, get_or, length-map, get_or-map}
@@ -32,23 +32,23 @@ pub grove-three : (l : List Row) (i : ℕ) → grove l i 3 ≡ more (tree_at l i
 grove-three l i = grove-more l i 2 ∙ ap (more (tree_at l i)) (grove-two l (i + size (tree_at l i)))
 
 -- the j-th of some trees, counted from 0, stands behind j of them
-pub nth-grove : (l : List Row) (j at n : ℕ) → j < n → nth (suc j) (grove l at n) ≡ some (tree_at l (at + sizes (grove l at j)))
+pub nth-grove : (l : List Row) (j at n : ℕ) → j < n → nth (suc j) (grove l at n) ≡ Some (tree_at l (at + sizes (grove l at j)))
 unfolding nth
 nth-grove l j at zero h = absurd (omega arith)
-nth-grove l zero at (suc n) h = let e : at ≡ at + sizes (grove l at 0) = omega (arith, grove-none l at) in ap (nth 1) (grove-more l at n) ∙ ap (λ (x : ℕ). some (tree_at l x)) e
+nth-grove l zero at (suc n) h = let e : at ≡ at + sizes (grove l at 0) = omega (arith, grove-none l at) in ap (nth 1) (grove-more l at n) ∙ ap (λ (x : ℕ). Some (tree_at l x)) e
 nth-grove l (suc j) at (suc n) h =
     let s = size (tree_at l at) in
     let e : at + s + sizes (grove l (at + s) j) ≡ at + sizes (grove l at (suc j)) = omega (arith, grove-size l at j) in
-    ap (nth (suc (suc j))) (grove-more l at n) ∙ nth-grove l j (at + s) n (omega arith) ∙ ap (λ (x : ℕ). some (tree_at l x)) e
+    ap (nth (suc (suc j))) (grove-more l at n) ∙ nth-grove l j (at + s) n (omega arith) ∙ ap (λ (x : ℕ). Some (tree_at l x)) e
 
-pub nth-none : {n : ℕ} (f : Forest n) (i : ℕ) → n < i → nth i f ≡ none
+pub nth-none : {n : ℕ} (f : Forest n) (i : ℕ) → n < i → nth i f ≡ None
 unfolding nth
 nth-none end i h = refl
 nth-none (more t f) zero h = refl
 nth-none (more t f) (suc zero) h = absurd (omega arith)
 nth-none (more t f) (suc (suc i)) h = nth-none f (suc i) (omega arith)
 
-pub nth-zero : {n : ℕ} (f : Forest n) → nth 0 f ≡ none
+pub nth-zero : {n : ℕ} (f : Forest n) → nth 0 f ≡ None
 unfolding nth
 nth-zero end = refl
 nth-zero (more t f) = refl

@@ -3,7 +3,7 @@ use Prim.Native.Nat.{ℕ, zero, suc, ◌+◌, ◌≤◌, ◌<◌}
 use mathlib.Core.Path.{◌≡◌, refl, ap, sym, ◌∙◌}
 use mathlib.Core.Bool.{Bool, true, false, cond}
 use mathlib.Core.List.{List, [], ◌∷◌, ◌++◌, map, append-nil}
-use mathlib.Core.Option.{Option, none, some}
+use Rattle.std.specs.Prelude.{Option, None, Some}
 use native.Mathlib.Omega.{arith}
 use lib.Dec.{eqb}
 use lib.ListN.{length, drop}
@@ -23,34 +23,34 @@ use Rattle.reduce.proofs.Kept.{if-else, project-tuple}
 use Rattle.reduce.proofs.Given.{call-goes}
 
 -- WHERE NOTHING IS PUT the tree stays as it is
-hit-none : (σ : Sub) → ((x : ℕ) → σ x ≡ none) → (h : Head) → hit σ h ≡ none
+hit-none : (σ : Sub) → ((x : ℕ) → σ x ≡ None) → (h : Head) → hit σ h ≡ None
 unfolding hit
 hit-none σ e h = rw (e (word_of h)) (either (eqb (code h) 5))
   where
-    either : (b : Bool) → cond {A = Option Tree} b none none ≡ none
+    either : (b : Bool) → cond {A = Option Tree} b None None ≡ None
     either true = refl
     either false = refl
 
-hide-none : (ps : List Param) (σ : Sub) → ((x : ℕ) → σ x ≡ none) → (x : ℕ) → hide ps σ x ≡ none
+hide-none : (ps : List Param) (σ : Sub) → ((x : ℕ) → σ x ≡ None) → (x : ℕ) → hide ps σ x ≡ None
 unfolding hide veil
 hide-none ps σ e x = rw (e x) (veiled (find ps x))
   where
-    veiled : (o : Option ℕ) → veil o none ≡ none
-    veiled none = refl
-    veiled (some t) = refl
+    veiled : (o : Option ℕ) → veil o None ≡ None
+    veiled None = refl
+    veiled (Some t) = refl
 
 module _ (form : ℕ → Form) where
   mutual
     unfolding put swap
 
-    put-none : (t : Tree) (σ : Sub) → ((x : ℕ) → σ x ≡ none) → put form σ t ≡ t
+    put-none : (t : Tree) (σ : Sub) → ((x : ℕ) → σ x ≡ None) → put form σ t ≡ t
     put-none (node h ty f) σ e = rw (hit-none σ e h) (ap (node h ty) (puts_none f (scope form h ty (tys f)) σ e))
 
-    puts_none : {n : ℕ} (f : Forest n) (s : ℕ → List Param) (σ : Sub) → ((x : ℕ) → σ x ≡ none) → puts form s σ f ≡ f
+    puts_none : {n : ℕ} (f : Forest n) (s : ℕ → List Param) (σ : Sub) → ((x : ℕ) → σ x ≡ None) → puts form s σ f ≡ f
     puts_none end s σ e = refl
     puts_none (more t f) s σ e = rw (put-none t (hide (s 0) σ) (hide-none (s 0) σ e), puts_none f (λ i. s (suc i)) σ e) refl
 
-assign-none : (ps : List Param) (x : ℕ) → assign ps end x ≡ none
+assign-none : (ps : List Param) (x : ℕ) → assign ps end x ≡ None
 unfolding assign
 assign-none [] x = refl
 assign-none (p ∷ ps) x = refl
@@ -123,7 +123,7 @@ module _ (l : List (List ℕ)) (inside : size (tree_of (map row_of l)) ≤ lengt
         let b = tree_at L 2 in
         let c : tree_at L 1 ≡ node lambda (U 1) (more b end) = made_as l 1 call-second lambda (ap (λ (k : ℕ). head_from k (N 1) (W 1)) q) ∙ ap (node lambda (U 1)) (grove-one L 2) in
         let t : tree_of L ≡ node (apply 0) (U 0) (more (node lambda (U 1) (more b end)) end) = first-tree (apply 0) (head-call ∙ ap apply z) ∙ ap (node (apply 0) (U 0)) (grove-one L 1 ∙ ap (λ (x : Tree). more x end) c) in
-        let r : quiet (apply_step form 0 (U 0) (node lambda (U 1) (more b end)) end) ≡ some b = call-goes form (U 0) (node lambda (U 1) (more b end)) end refl ∙ ap some (put-none form b (assign (params (form (U 1))) end) (assign-none (params (form (U 1))))) in
+        let r : quiet (apply_step form 0 (U 0) (node lambda (U 1) (more b end)) end) ≡ Some b = call-goes form (U 0) (node lambda (U 1) (more b end)) end refl ∙ ap Some (put-none form b (assign (params (form (U 1))) end) (assign-none (params (form (U 1))))) in
         record {
           made = b;
           rule = ap (rule_of form) t ∙ r;
@@ -194,7 +194,7 @@ module _ (l : List (List ℕ)) (inside : size (tree_of (map row_of l)) ≤ lengt
       last-element n g form =
           let F = grove L 2 (suc j) in
           let t : tree_of L ≡ node (project (suc j)) (U 0) (more (node (tuple (suc j)) (U 1) F) end) = first-tree (project (suc j)) (head-project ∙ ap project last) ∙ ap (node (project (suc j)) (U 0)) (grove-one L 1 ∙ ap (λ (x : Tree). more x end) tuple-made) in
-          let r : quiet (project_step (suc j) (node (tuple (suc j)) (U 1) F)) ≡ some (tree_at L (2 + sizes (grove L 2 j))) = project-tuple (suc j) (node (tuple (suc j)) (U 1) F) refl ∙ nth-grove L j 2 (suc j) (omega arith) in
+          let r : quiet (project_step (suc j) (node (tuple (suc j)) (U 1) F)) ≡ Some (tree_at L (2 + sizes (grove L 2 j))) = project-tuple (suc j) (node (tuple (suc j)) (U 1) F) refl ∙ nth-grove L j 2 (suc j) (omega arith) in
           let m : n ≡ 1 + (1 + sizes (grove L 2 j)) = g ∙ omega arith in
           record {
             made = tree_at L (2 + sizes (grove L 2 j));

@@ -3,48 +3,50 @@ use Prim.Native.Nat.{ℕ, ◌+◌, ◌*◌, ◌-◌, ◌<◌, ◌≤◌}
 use mathlib.Core.Path.{◌≡◌, refl, ap, sym, ◌∙◌}
 use mathlib.Core.Bool.{Bool, true, false}
 use mathlib.Core.List.{List, [], ◌∷◌, ◌++◌, map, append-nil}
-use mathlib.Core.Option.{Option, none, some}
+use Rattle.std.specs.Prelude.{Option, None, Some}
 use native.Mathlib.Omega.{arith}
-use lib.ListN.{length, get_or, take, drop, length-append, length-take, length-drop, length-map, drop_of_length-le}
+use lib.ListN.{length, take, drop, length-take, length-drop, length-map, drop_of_length-le}
 use Rattle.layout.specs.Rows.{row_table}
 use Rattle.layout.proofs.Tables.{row-table-append, row-table-take}
+use Rattle.layout.specs.declared.kinds.Kind.{Kind}
+use Rattle.layout.specs.Kinds.{number_of}
 use Rattle.meaning.specs.Types.{Form}
 use Rattle.meaning.specs.Terms.{Tree, flat, raw, row_of, kind_no, n_no, type_no, size, tree_of, tree_at, grove}
 use Rattle.meaning.specs.Steps.{ready}
 use Rattle.meaning.proofs.Trees.Parse.{length-flat}
-use Rattle.put.specs.Put.{standing, rows_for, chosen, after, run, arg_rows, put_rows}
+use Rattle.put.specs.Put.{standing, put_rows}
 use Rattle.put.proofs.Loops.{standing-length}
 use Rattle.reduce.specs.Rule.{rule_of, size_if, rows_if}
-use Rattle.reduce.specs.Plan.{rows_of, row_no, rule_rows, pair_rows, zip_rows, LetAt, CallsAt, TiesAt, ZipsFrom, Plans}
+use Rattle.reduce.specs.Plan.{rows_of, row_no, pair_rows, LetAt, CallsAt, TiesAt, ZipsFrom, Plans}
 use Rattle.reduce.specs.Given.{tie_row, PutsRule}
 use Rattle.reduce.specs.declared.puts.Puts.{Puts}
 use Rattle.reduce.specs.declared.Plan.TheVariants.{Stays, Part, Leaf, Pair, Let, Call, Tie, Zip}
 use Rattle.reduce.proofs.Filled.{pair-length}
 use Rattle.reduce.proofs.Zipped.{plan-unready}
 
-some_same : {A : Type 0} (a b : A) → ◌≡◌ {A = Option A} (some a) (some b) → a ≡ b
+some_same : {A : Type 0} (a b : A) → ◌≡◌ {A = Option A} (Some a) (Some b) → a ≡ b
 some_same a b e = cc
 
 -- told by rows
-pub size-told : (o : Option Tree) (X : List (List ℕ)) (n : ℕ) → rows_of o ≡ some X → n ≡ length X → some n ≡ size_if o
+pub size-told : (o : Option Tree) (X : List (List ℕ)) (n : ℕ) → rows_of o ≡ Some X → n ≡ length X → Some n ≡ size_if o
 unfolding rows_of size_if
-size-told none X n e q = let z : ◌≡◌ {A = ℕ} 0 1 = cc in absurd (omega arith)
-size-told (some t) X n e q = ap some (q ∙ sym (ap length (some_same (map raw (flat t)) X e)) ∙ length-map (flat t) raw ∙ length-flat t)
+size-told None X n e q = let z : ◌≡◌ {A = ℕ} 0 1 = cc in absurd (omega arith)
+size-told (Some t) X n e q = ap Some (q ∙ sym (ap length (some_same (map raw (flat t)) X e)) ∙ length-map (flat t) raw ∙ length-flat t)
 
-pub none_told : (o : Option Tree) → rows_of o ≡ none → none ≡ size_if o
+pub none_told : (o : Option Tree) → rows_of o ≡ None → None ≡ size_if o
 unfolding rows_of size_if
-none_told none e = refl
-none_told (some t) e = let z : ◌≡◌ {A = ℕ} 0 1 = cc in absurd (omega arith)
+none_told None e = refl
+none_told (Some t) e = let z : ◌≡◌ {A = ℕ} 0 1 = cc in absurd (omega arith)
 
-pub rows_told : (o : Option Tree) (X : List (List ℕ)) → rows_of o ≡ some X → rows_if o ≡ X
+pub rows_told : (o : Option Tree) (X : List (List ℕ)) → rows_of o ≡ Some X → rows_if o ≡ X
 unfolding rows_of rows_if
-rows_told none X e = let z : ◌≡◌ {A = ℕ} 0 1 = cc in absurd (omega arith)
-rows_told (some t) X e = some_same (map raw (flat t)) X e
+rows_told None X e = let z : ◌≡◌ {A = ℕ} 0 1 = cc in absurd (omega arith)
+rows_told (Some t) X e = some_same (map raw (flat t)) X e
 
-pub no_rows : (o : Option Tree) → rows_of o ≡ none → length (rows_if o) ≡ 0
+pub no_rows : (o : Option Tree) → rows_of o ≡ None → length (rows_if o) ≡ 0
 unfolding rows_of rows_if
-no_rows none e = refl
-no_rows (some t) e = let z : ◌≡◌ {A = ℕ} 0 1 = cc in absurd (omega arith)
+no_rows None e = refl
+no_rows (Some t) e = let z : ◌≡◌ {A = ℕ} 0 1 = cc in absurd (omega arith)
 
 -- a table that is filled by one copy
 pub whole-copied : (D X : List (List ℕ)) (n : ℕ) → length D ≡ n → take 0 D ++ (X ++ drop (0 + n) D) ≡ X
@@ -57,7 +59,7 @@ module _ (form : ℕ → Form) (l : List (List ℕ)) where
   abbrev O : Option Tree
   O = rule_of form (tree_of (map row_of l))
 
-  pub count-stays : Plans form l Stays → none ≡ size_if (rule_of form (tree_of (map row_of l)))
+  pub count-stays : Plans form l Stays → None ≡ size_if (rule_of form (tree_of (map row_of l)))
   unfolding Plans
   count-stays p = none_told O p
 
@@ -65,19 +67,19 @@ module _ (form : ℕ → Form) (l : List (List ℕ)) where
   unfolding Plans
   part-rises a b (e, h, k) = (h, k)
 
-  pub count-part : (a b : ℕ) → Plans form l (Part a b) → some (b - a) ≡ size_if (rule_of form (tree_of (map row_of l)))
+  pub count-part : (a b : ℕ) → Plans form l (Part a b) → Some (b - a) ≡ size_if (rule_of form (tree_of (map row_of l)))
   unfolding Plans
   count-part a b (e, h, k) = size-told O (standing l a b) (b - a) e (sym (standing-length l a b h k))
 
-  pub count-leaf : (k : ℕ) → Plans form l (Leaf k) → some 1 ≡ size_if (rule_of form (tree_of (map row_of l)))
+  pub count-leaf : (k : Kind) → Plans form l (Leaf k) → Some 1 ≡ size_if (rule_of form (tree_of (map row_of l)))
   unfolding Plans
-  count-leaf k e = size-told O ((k ∷ 0 ∷ type_no (row_no l 0) ∷ 0 ∷ []) ∷ []) 1 e refl
+  count-leaf k e = size-told O ((number_of k ∷ 0 ∷ type_no (row_no l 0) ∷ 0 ∷ []) ∷ []) 1 e refl
 
   pub pair-rises : (t : ℕ) → Plans form l (Pair t) → (2 ≤ t) × (t ≤ length l)
   unfolding Plans
   pair-rises t (e, h, k) = (h, k)
 
-  pub count-pair : (t n : ℕ) → Plans form l (Pair t) → n ≡ length l → some (n + 1) ≡ size_if (rule_of form (tree_of (map row_of l)))
+  pub count-pair : (t n : ℕ) → Plans form l (Pair t) → n ≡ length l → Some (n + 1) ≡ size_if (rule_of form (tree_of (map row_of l)))
   unfolding Plans
   count-pair t n (e, h, k) q = size-told O (pair_rows form l t) (n + 1) e (omega (arith, q, pair-length form l t h k, h, k))
 
@@ -97,13 +99,10 @@ module _ (form : ℕ → Form) (l : List (List ℕ)) where
   unfolding Plans
   zip-of f p = p
 
-  pub count-zip : (f n : ℕ) → rule_rows form l ≡ some (zip_rows form l f) → n ≡ length (zip_rows form l f) → some n ≡ size_if (rule_of form (tree_of (map row_of l)))
-  count-zip f n e q = size-told O (zip_rows form l f) n e q
-
-  pub count-puts : (p : Puts) (n : ℕ) → PutsRule form l [] p → n ≡ length (put_rows form l p.body (take p.count p.names) p.bounds) → some n ≡ size_if (rule_of form (tree_of (map row_of l)))
+  pub count-puts : (p : Puts) (n : ℕ) → PutsRule form l [] p → n ≡ length (put_rows form l p.body (take p.count p.names) p.bounds) → Some n ≡ size_if (rule_of form (tree_of (map row_of l)))
   count-puts p n d q = size-told O (put_rows form l p.body (take p.count p.names) p.bounds) n d.rows q
 
-  pub count-tie : (p : Puts) (n : ℕ) → PutsRule form l (tie_row l ∷ []) p → n ≡ length (put_rows form l p.body (take p.count p.names) p.bounds) → some (1 + n) ≡ size_if (rule_of form (tree_of (map row_of l)))
+  pub count-tie : (p : Puts) (n : ℕ) → PutsRule form l (tie_row l ∷ []) p → n ≡ length (put_rows form l p.body (take p.count p.names) p.bounds) → Some (1 + n) ≡ size_if (rule_of form (tree_of (map row_of l)))
   count-tie p n d q = size-told O (tie_row l ∷ put_rows form l p.body (take p.count p.names) p.bounds) (1 + n) d.rows (omega (arith, q))
 
   -- the rows
@@ -122,16 +121,13 @@ module _ (form : ℕ → Form) (l : List (List ℕ)) where
       let h = part-rises a b p in
       e ∙ whole-copied D (standing l a b) (b - a) (n ∙ ap length rs ∙ standing-length l a b h.0 h.1) ∙ sym rs
 
-  pub leaf-rows : (k : ℕ) → Plans form l (Leaf k) → rows_if (rule_of form (tree_of (map row_of l))) ≡ (k ∷ 0 ∷ type_no (row_no l 0) ∷ 0 ∷ []) ∷ []
+  pub leaf-rows : (k : Kind) → Plans form l (Leaf k) → rows_if (rule_of form (tree_of (map row_of l))) ≡ (number_of k ∷ 0 ∷ type_no (row_no l 0) ∷ 0 ∷ []) ∷ []
   unfolding Plans
-  leaf-rows k e = rows_told O ((k ∷ 0 ∷ type_no (row_no l 0) ∷ 0 ∷ []) ∷ []) e
+  leaf-rows k e = rows_told O ((number_of k ∷ 0 ∷ type_no (row_no l 0) ∷ 0 ∷ []) ∷ []) e
 
   pub pair-rows : (t : ℕ) → Plans form l (Pair t) → rows_if (rule_of form (tree_of (map row_of l))) ≡ pair_rows form l t
   unfolding Plans
   pair-rows t (e, h, k) = rows_told O (pair_rows form l t) e
-
-  pub zip-rows : (f : ℕ) → rule_rows form l ≡ some (zip_rows form l f) → rows_if (rule_of form (tree_of (map row_of l))) ≡ zip_rows form l f
-  zip-rows f e = rows_told O (zip_rows form l f) e
 
   -- a zip that makes something has lists
   pub zip-ready : (exact : map raw (map row_of l) ≡ l) (one : size (tree_of (map row_of l)) ≡ length l) (e : kind_no (row_no l 0) ≡ 8) (q : kind_no (row_no l 1) ≡ 15) (first : ℕ) (g : first ≡ 1 + size (tree_at (map row_of l) 1)) (n : ℕ) → 0 < n → n ≡ 8 * length (rows_if (rule_of form (tree_of (map row_of l))))
@@ -147,31 +143,6 @@ module _ (form : ℕ → Form) (l : List (List ℕ)) where
 
   pub tied-rows : (p : Puts) → PutsRule form l (tie_row l ∷ []) p → rows_if (rule_of form (tree_of (map row_of l))) ≡ tie_row l ∷ put_rows form l p.body (take p.count p.names) p.bounds
   tied-rows p d = rows_told O (tie_row l ∷ put_rows form l p.body (take p.count p.names) p.bounds) d.rows
-
--- a body with names put is not too long to count
-module _ (form : ℕ → Form) (ys : List ℕ) (args : ℕ → List (List ℕ)) (short : (j : ℕ) → length (args j) ≤ 2048) where
-  row-short : (o : Option ℕ) (r : List ℕ) → length (rows_for args o r) ≤ 2048
-  unfolding rows_for
-  row-short none r = omega arith
-  row-short (some j) r = short j
-
-  run_short : (rs : List (List ℕ)) (ms : List ℕ) → length (run form ys args rs ms) ≤ 2048 * length rs
-  unfolding run
-  run_short [] ms = omega arith
-  run_short (r ∷ rs) [] = omega arith
-  run_short (r ∷ rs) (m ∷ ms) =
-      let h = row-short (chosen ys (row_of r).head m) r in
-      let k = run_short rs (after form ys (row_of r) m ms) in
-      omega (arith, length-append (rows_for args (chosen ys (row_of r).head m) r) (run form ys args rs (after form ys (row_of r) m ms)), h, k)
-
-pub put-short : (form : ℕ → Form) (l : List (List ℕ)) (body : ℕ) (names bounds : List ℕ) → length l ≤ 2048 → length (put_rows form l body names bounds) ≤ 4194304
-unfolding put_rows
-put-short form l body names bounds h =
-    let k = run_short form names (arg_rows l bounds) (λ j. part-short (get_or bounds j 0) (get_or bounds (j + 1) 0)) (drop body l) (0 ∷ []) in
-    omega (arith, k, length-drop body l, h)
-  where
-    part-short : (a b : ℕ) → length (standing l a b) ≤ 2048
-    part-short a b = omega (arith, length-take (b - a) (drop a l), length-drop a l, h)
 
 -- a row, and rows behind it, in bytes
 pub tail-lent : (t ys : List ℕ) (r : List ℕ) (R : List (List ℕ)) (k : ℕ) → 8 ≤ length t → take 1 (row_table t) ≡ r ∷ [] → row_table ys ≡ R → length t - 8 ≤ k → row_table (take 8 t ++ (ys ++ drop k (drop 8 t))) ≡ r ∷ R

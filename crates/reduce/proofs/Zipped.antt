@@ -3,11 +3,12 @@ use Prim.Native.Nat.{ℕ, suc, ◌+◌, ◌-◌, ◌/◌, ◌%◌, ◌≤◌, �
 use mathlib.Core.Path.{◌≡◌, refl, ap, sym, ◌∙◌}
 use mathlib.Core.Bool.{Bool, true, false, cond}
 use mathlib.Core.List.{List, [], ◌∷◌, ◌++◌, map, append-nil, append_assoc, map-append}
-use mathlib.Core.Option.{none, some}
+use Rattle.std.specs.Prelude.{None, Some}
 use native.Mathlib.Omega.{arith}
 use lib.Dec.{eqb}
 use lib.ListN.{length}
 use borrow.Author.Tests.{eq-eqb, ne_eqb}
+use Rattle.layout.specs.declared.kinds.Kind.TheVariants as kind
 use Rattle.meaning.specs.Bytes.{◌∧ᵇ◌}
 use Rattle.meaning.specs.Types.{Form, elem_of, low, rest}
 use Rattle.meaning.specs.Terms.{nil, cons, zip, apply, code, n_of, word_of, head_from, Tree, Forest, node, end, more, head_of, is, Row, flat, flats, size, sizes, raw, row_of, kind_no, n_no, type_no, word_no, tree_of, tree_at, grove, kids}
@@ -16,7 +17,7 @@ use Rattle.meaning.proofs.Trees.Parse.{grove-more}
 use Rattle.terms.proofs.Scan.{grove-none, grove-size}
 use Rattle.put.proofs.Meets.{stands}
 use Rattle.reduce.specs.Rule.{quiet, rule_of}
-use Rattle.reduce.specs.Plan.{rows_of, row_no, rule_rows, half_rows, zip_rows, ZipsAt, Plans}
+use Rattle.reduce.specs.Plan.{rows_of, row_no, rule_rows, half_rows, zip_rows, Plans}
 use Rattle.reduce.specs.declared.Plan.TheVariants.{Stays, Leaf}
 use Rattle.reduce.proofs.Quiet.{send-quiet}
 use Rattle.reduce.proofs.Roots.{whole_in, grove-one, kind-is, made_as, sized-as}
@@ -25,11 +26,11 @@ use Rattle.reduce.proofs.Given.{call-rule, call-size, call-more}
 -- Steps by tests -------------------------------------------------------------------------------------------------
 
 module _ {n : ℕ} (form : ℕ → Form) (u : ℕ) (c : Tree) (args : Forest n) where
-  call_stays : is 6 c ≡ false → is 15 c ≡ false → quiet (apply_step form 0 u c args) ≡ none
+  call_stays : is 6 c ≡ false → is 15 c ≡ false → quiet (apply_step form 0 u c args) ≡ None
   unfolding apply_step quiet
   call_stays e g = rw (e, g) (by_kind (is 7 c))
     where
-      by_kind : (b : Bool) → quiet (cond b (send_step 0 u c args) stay) ≡ none
+      by_kind : (b : Bool) → quiet (cond b (send_step 0 u c args) stay) ≡ None
       by_kind true = send-quiet 0 u c args
       by_kind false = refl
 
@@ -38,15 +39,15 @@ module _ {n : ℕ} (form : ℕ → Form) (u : ℕ) (c : Tree) (args : Forest n) 
   call-zips e f g = rw (e, f, g) refl
 
   module _ (m : ℕ) where
-    zip-waits : ready m args ≡ false → quiet (zip_step form u m c args) ≡ none
+    zip-waits : ready m args ≡ false → quiet (zip_step form u m c args) ≡ None
     unfolding zip_step quiet
     zip-waits e = rw e refl
 
-    zip_ends : ready m args ≡ true → any_nil m args ≡ true → quiet (zip_step form u m c args) ≡ some (node nil u end)
+    zip_ends : ready m args ≡ true → any_nil m args ≡ true → quiet (zip_step form u m c args) ≡ Some (node nil u end)
     unfolding zip_step quiet
     zip_ends e g = rw (e, g) refl
 
-    zip-goes : ready m args ≡ true → any_nil m args ≡ false → quiet (zip_step form u m c args) ≡ some (zip_cons form u m c args)
+    zip-goes : ready m args ≡ true → any_nil m args ≡ false → quiet (zip_step form u m c args) ≡ Some (zip_cons form u m c args)
     unfolding zip_step quiet
     zip-goes e g = rw (e, g) refl
 
@@ -117,22 +118,19 @@ module _ (l : List (List ℕ)) (exact : map raw (map row_of l) ≡ l) (one : siz
     unfolding Plans rows_of
     plan-unready form r = ap rows_of (zip-rule form ∙ zip-waits form (U 0) (tree_at L 1) (grove L first (N 0)) (N 1) (sym r))
 
-    pub plan-short : (form : ℕ → Form) → true ≡ ready (N 1) (grove L first (N 0)) → true ≡ any_nil (N 1) (grove L first (N 0)) → Plans form l (Leaf 12)
+    pub plan-short : (form : ℕ → Form) → true ≡ ready (N 1) (grove L first (N 0)) → true ≡ any_nil (N 1) (grove L first (N 0)) → Plans form l (Leaf kind.Nil)
     unfolding Plans rows_of flat raw code n_of word_of
     plan-short form r a = ap rows_of (zip-rule form ∙ zip_ends form (U 0) (tree_at L 1) (grove L first (N 0)) (N 1) (sym r) (sym a))
 
-    pub zips-at : true ≡ ready (N 1) (grove L first (N 0)) → false ≡ any_nil (N 1) (grove L first (N 0)) → ZipsAt l first
-    zips-at r a = record { behind = omega (arith, zip-size); whole = zip-whole; lists = sym r; full = sym a }
-
-    pub plan-zip : (form : ℕ → Form) → true ≡ ready (N 1) (grove L first (N 0)) → false ≡ any_nil (N 1) (grove L first (N 0)) → rule_rows form l ≡ some (zip_rows form l first)
+    pub plan-zip : (form : ℕ → Form) → true ≡ ready (N 1) (grove L first (N 0)) → false ≡ any_nil (N 1) (grove L first (N 0)) → rule_rows form l ≡ Some (zip_rows form l first)
     unfolding rows_of zip_cons zip_rows half_rows kid child nth swap
     plan-zip form r a =
         let args = grove L first (N 0) in
         let t1 : first ≡ 1 + size (tree_at L 1) = g in
         let whole = zip-whole in
         ap rows_of (zip-rule form ∙ zip-goes form (U 0) (tree_at L 1) args (N 1) (sym r) (sym a))
-        ∙ ap some (zip-flat (U 0) (elem_of (form (U 0))) (kid 1 (tree_at L 1)) (tree_at L 1) (kids_at 1 (N 1) args) (kids_at 2 (N 1) args))
-        ∙ ap (λ (k : Tree). some ((13 ∷ 0 ∷ U 0 ∷ 0 ∷ []) ∷ (8 ∷ N 0 ∷ elem_of (form (U 0)) ∷ 0 ∷ []) ∷ (map raw (flat (kid 1 k)) ++ (map raw (flats (kids_at 1 (N 1) args)) ++ ((8 ∷ N 0 ∷ U 0 ∷ 0 ∷ []) ∷ (map raw (flat (tree_at L 1)) ++ map raw (flats (kids_at 2 (N 1) args)))))))) zip_made
+        ∙ ap Some (zip-flat (U 0) (elem_of (form (U 0))) (kid 1 (tree_at L 1)) (tree_at L 1) (kids_at 1 (N 1) args) (kids_at 2 (N 1) args))
+        ∙ ap (λ (k : Tree). Some ((13 ∷ 0 ∷ U 0 ∷ 0 ∷ []) ∷ (8 ∷ N 0 ∷ elem_of (form (U 0)) ∷ 0 ∷ []) ∷ (map raw (flat (kid 1 k)) ++ (map raw (flats (kids_at 1 (N 1) args)) ++ ((8 ∷ N 0 ∷ U 0 ∷ 0 ∷ []) ∷ (map raw (flat (tree_at L 1)) ++ map raw (flats (kids_at 2 (N 1) args)))))))) zip_made
         ∙ rw (stands l exact 2 first zip-size (omega (arith, whole)), stands l exact 1 first t1 (omega (arith, whole))) refl
 
 -- Argument by argument -------------------------------------------------------------------------------------------

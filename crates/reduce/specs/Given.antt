@@ -1,6 +1,6 @@
 -- What a rule puts for names, as code hands it on. Assumes nothing.
 use Rattle.std.specs.Prelude.{ℕ, ◌≤◌, ◌≡◌, List, [], ◌∷◌, ◌++◌, map, length, get_or, take}
-use Rattle.std.proofs.Math.Option.{some}
+use Rattle.std.specs.Prelude.{Some}
 use Rattle.meaning.specs.Types.{Form}
 use Rattle.meaning.specs.Terms.{row_of, n_no, type_no, size, tree_of}
 use Rattle.put.specs.Put.{Ready, put_rows}
@@ -19,4 +19,4 @@ EndsArgs l p = p.count ≡ n_no (row_no l 0) → get_or p.bounds p.count 0 ≡ s
 pub record PutsRule (form : ℕ → Form) (l : List (List ℕ)) (front : List (List ℕ)) (p : Puts) : Type 0 where
   pub few : p.count ≤ length p.names
   pub ready : Ready l p.body (take p.count p.names) p.bounds
-  pub rows : rule_rows form l ≡ some (front ++ put_rows form l p.body (take p.count p.names) p.bounds)
+  pub rows : rule_rows form l ≡ Some (front ++ put_rows form l p.body (take p.count p.names) p.bounds)

@@ -1,7 +1,10 @@
 -- The two halves of what a zip makes, as code goes through its arguments. Assumes nothing.
 use Rattle.std.specs.Prelude.{ℕ, ◌+◌, ◌≤◌, ◌≡◌, Bool, true, false, cond, List, map, length, get_or}
 use Rattle.meaning.specs.Types.{low}
-use Rattle.meaning.specs.Terms.{flat, flats, sizes, raw, row_of, tree_at, grove}
+use Rattle.layout.specs.Rows.{row_table}
+use Rattle.reduce.specs.Rule.{Redex}
+use Rattle.reduce.specs.Plan.{row_no}
+use Rattle.meaning.specs.Terms.{Forest, kind_no, n_no, size, flat, flats, sizes, raw, row_of, tree_at, grove}
 use Rattle.meaning.specs.Steps.{kid, ready, any_nil, kids_at}
 use Rattle.put.specs.Put.{standing}
 use Rattle.put.specs.declared.Span.{Span}
@@ -13,6 +16,15 @@ which_half tails = cond tails 2 1
 -- the rows of a half: n arguments from row `first` on, under a mask
 unfoldable pub half_of : List (List ℕ) → ℕ → ℕ → ℕ → Bool → List (List ℕ)
 half_of l first n m tails = map raw (flats (kids_at (which_half tails) m (grove (map row_of l) first n)))
+
+-- n arguments from row `first` on
+abbrev pub arguments : List ℕ → ℕ → (n : ℕ) → Forest n
+arguments rows first n = grove (map row_of (row_table rows)) first n
+
+-- those that are masked are cons
+pub record AllCons (rows : List ℕ) (first n m : ℕ) : Type 0 where
+  pub lists : ready m (arguments rows first n) ≡ true
+  pub full : any_nil m (arguments rows first n) ≡ false
 
 -- the arguments end within the rows, and those that are masked are cons
 pub record Halves (l : List (List ℕ)) (first n m : ℕ) : Type 0 where
@@ -32,3 +44,13 @@ pub record HalfAt (l : List (List ℕ)) (at h : ℕ) (tails : Bool) (s : Span) :
   pub low_end : s.from ≤ s.to
   pub high_end : s.to ≤ length l
   pub rows : standing l s.from s.to ≡ map raw (flat (cond (low h) (kid (which_half tails) (tree_at (map row_of l) at)) (tree_at (map row_of l) at)))
+
+-- a call of a zip on lent rows: where its arguments begin, how many there are, its mask, and where each of them stands
+pub record Zipping (rows : List ℕ) (first n m : ℕ) (bounds : List ℕ) : Type 0 where
+  pub redex : Redex rows
+  pub applied : kind_no (row_no (row_table rows) 0) ≡ 8
+  pub zips : kind_no (row_no (row_table rows) 1) ≡ 15
+  pub behind : first ≡ 1 + size (tree_at (map row_of (row_table rows)) 1)
+  pub count : n_no (row_no (row_table rows) 0) ≡ n
+  pub masked : n_no (row_no (row_table rows) 1) ≡ m
+  pub places : BoundsAt (row_table rows) first n bounds

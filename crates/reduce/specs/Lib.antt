@@ -5,3 +5,4 @@ pub mod Halves
 pub mod Behind
 pub mod Once
 pub mod Lists
+pub mod Taking

@@ -1,18 +1,16 @@
 -- What the rule of a table's first row makes of the tree that the rows are. Assumes nothing.
 use Rattle.std.specs.Prelude.{ℕ, ◌≤◌, ◌≡◌, List, [], map, length, get_or}
-use Rattle.std.proofs.Math.Option.{Option, none, some}
+use Rattle.std.specs.Prelude.{Option, None, Some}
 use Rattle.layout.specs.Rows.{row_table, term_rows}
 use Rattle.meaning.specs.Types.{Form}
 use Rattle.meaning.specs.Terms.{Tree, node, flat, size, raw, kind_no, n_no, word_no, tree_of}
 use Rattle.meaning.specs.Steps.{Out, stay, go, contract}
-use Rattle.reduce.specs.declared.Outcome.{Outcome}
-use Rattle.reduce.specs.declared.Outcome.TheVariants.{Stays, Goes}
 
 -- the tree after a step that sends nothing
 unfoldable pub quiet : Out → Option Tree
-quiet stay = none
-quiet (go none t) = some t
-quiet (go (some c) t) = none
+quiet stay = None
+quiet (go None t) = Some t
+quiet (go (Some c) t) = None
 
 -- "What reduces at a row": the tree that its rule makes, where it sends nothing; the next number is then never asked
 unfoldable pub rule_of : (ℕ → Form) → Tree → Option Tree
@@ -20,16 +18,12 @@ rule_of form (node h u f) = quiet (contract form 0 h u f)
 
 -- the rows of what is made, as numbers, and how many they are
 unfoldable pub size_if : Option Tree → Option ℕ
-size_if none = none
-size_if (some t) = some (size t)
+size_if None = None
+size_if (Some t) = Some (size t)
 
 unfoldable pub rows_if : Option Tree → List (List ℕ)
-rows_if none = []
-rows_if (some t) = map raw (flat t)
-
-abbrev pub told : Outcome → Option ℕ
-told Stays = none
-told (Goes n) = some n
+rows_if None = []
+rows_if (Some t) = map raw (flat t)
 
 -- the rows begin with a tree and may go on behind it, each row the numbers of its head, and are few
 pub record Front (rows : List ℕ) : Type 0 where

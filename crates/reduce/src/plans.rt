@@ -7,20 +7,19 @@ ghost use Rattle.reduce.specs.Rule.{Redex};
 ghost use Rattle.reduce.specs.Plan.{row_no, Plans};
 
 use crate::{Plan, places, puts};
+use layout::kinds::Kind;
+use layout::views::Types;
 
 // "when the child is true or false": the branch taken.
 pub fn plan_if(rows: &[u8]) -> Plan
     requires { Redex rows.now × (kind_no (row_no (row_table rows.now) 0) ≡ 10) }
     ensures { (form : ℕ → Form) → Plans form (row_table rows.now) result }
 {
-    let k = places::kind_of(rows, 1);
-    if k == 3 {
-        return Plan::Part(2, terms::end_of(rows, 2));
+    match places::kind_at(rows, 1) {
+        Some(Kind::True) => Plan::Part(2, terms::end_of(rows, 2)),
+        Some(Kind::False) => Plan::Part(terms::end_of(rows, 2), layout::term_rows(rows)),
+        _ => Plan::Stays,
     }
-    if k == 4 {
-        return Plan::Part(terms::end_of(rows, 2), layout::term_rows(rows));
-    }
-    Plan::Stays
 }
 
 // "nil or cons", "elements unevaluated".
@@ -28,14 +27,11 @@ pub fn plan_isnil(rows: &[u8]) -> Plan
     requires { Redex rows.now × (kind_no (row_no (row_table rows.now) 0) ≡ 14) }
     ensures { (form : ℕ → Form) → Plans form (row_table rows.now) result }
 {
-    let k = places::kind_of(rows, 1);
-    if k == 12 {
-        return Plan::Leaf(3);
+    match places::kind_at(rows, 1) {
+        Some(Kind::Nil) => Plan::Leaf(Kind::True),
+        Some(Kind::Cons) => Plan::Leaf(Kind::False),
+        _ => Plan::Stays,
     }
-    if k == 13 {
-        return Plan::Leaf(4);
-    }
-    Plan::Stays
 }
 
 // Of a tuple, the element at the row's place.
@@ -43,22 +39,13 @@ pub fn plan_project(rows: &[u8]) -> Plan
     requires { Redex rows.now × (kind_no (row_no (row_table rows.now) 0) ≡ 17) }
     ensures { (form : ℕ → Form) → Plans form (row_table rows.now) result }
 {
-    let r = places::row_of(rows, 0);
-    let i = r.n;
-    let c = places::row_of(rows, 1);
-    let k = c.kind;
-    let n = c.n;
-    if k != 16 {
-        return Plan::Stays;
+    let place = places::row_of(rows, 0).n;
+    let tuple = places::row_of(rows, 1);
+    if tuple.is(Kind::Tuple) && place != 0 && place <= tuple.n {
+        let at = places::past_trees(rows, 2, place as usize - 1);
+        return Plan::Part(at, terms::end_of(rows, at));
     }
-    if i == 0 {
-        return Plan::Stays;
-    }
-    if n < i {
-        return Plan::Stays;
-    }
-    let at = places::past_trees(rows, 2, i as usize - 1);
-    Plan::Part(at, terms::end_of(rows, at))
+    Plan::Stays
 }
 
 // Of a list, "a cons of the projected head and the list-projected tail".
@@ -66,30 +53,23 @@ pub fn plan_lproject(rows: &[u8]) -> Plan
     requires { Redex rows.now × (kind_no (row_no (row_table rows.now) 0) ≡ 18) }
     ensures { (form : ℕ → Form) → Plans form (row_table rows.now) result }
 {
-    let k = places::kind_of(rows, 1);
-    if k == 12 {
-        return Plan::Leaf(12);
+    match places::kind_at(rows, 1) {
+        Some(Kind::Nil) => Plan::Leaf(Kind::Nil),
+        Some(Kind::Cons) => Plan::Pair(terms::end_of(rows, 2)),
+        _ => Plan::Stays,
     }
-    if k == 13 {
-        return Plan::Pair(terms::end_of(rows, 2));
-    }
-    Plan::Stays
 }
 
 // Of a function with a name, the function of the others.
-pub fn plan_fix(types: &[u8], rows: &[u8]) -> Plan
+pub fn plan_fix(types: &Types, rows: &[u8]) -> Plan
     requires { Redex rows.now × (kind_no (row_no (row_table rows.now) 0) ≡ 11) }
-    ensures { Plans (form_of (type_table types.now)) (row_table rows.now) result }
+    ensures { Plans (form_of types.now) (row_table rows.now) result }
 {
-    let c = places::row_of(rows, 1);
-    let k = c.kind;
-    if k != 6 {
-        return Plan::Stays;
+    if puts::ties(types, rows) {
+        Plan::Tie
+    } else {
+        Plan::Stays
     }
-    if put::param_count(types, c.ty) == 0 {
-        return Plan::Stays;
-    }
-    Plan::Tie
 }
 
 // Of a call, by its function: a native function's body, a zip.
@@ -97,14 +77,11 @@ pub fn plan_call(rows: &[u8]) -> Plan
     requires { Redex rows.now × (kind_no (row_no (row_table rows.now) 0) ≡ 8) }
     ensures { (form : ℕ → Form) → Plans form (row_table rows.now) result }
 {
-    let k = places::kind_of(rows, 1);
-    if k == 6 {
-        return Plan::Call(terms::end_of(rows, 1));
+    match places::kind_at(rows, 1) {
+        Some(Kind::Native) => Plan::Call(terms::end_of(rows, 1)),
+        Some(Kind::Zip) => Plan::Zip(terms::end_of(rows, 1)),
+        _ => Plan::Stays,
     }
-    if k == 15 {
-        return Plan::Zip(terms::end_of(rows, 1));
-    }
-    Plan::Stays
 }
 
 // Of a let: its body with the bound term put.
@@ -116,31 +93,18 @@ pub fn plan_let(rows: &[u8]) -> Plan
 }
 
 // What the rule of the first row makes.
-pub fn plan_of(types: &[u8], rows: &[u8]) -> Plan
+pub fn plan_of(types: &Types, rows: &[u8]) -> Plan
     requires { Redex rows.now }
-    ensures { Plans (form_of (type_table types.now)) (row_table rows.now) result }
+    ensures { Plans (form_of types.now) (row_table rows.now) result }
 {
-    let k = places::kind_of(rows, 0);
-    if k == 8 {
-        return plan_call(rows);
+    match places::kind_at(rows, 0) {
+        Some(Kind::Apply) => plan_call(rows),
+        Some(Kind::If) => plan_if(rows),
+        Some(Kind::Fix) => plan_fix(types, rows),
+        Some(Kind::IsNil) => plan_isnil(rows),
+        Some(Kind::Project) => plan_project(rows),
+        Some(Kind::ListProject) => plan_lproject(rows),
+        Some(Kind::Let) => plan_let(rows),
+        _ => Plan::Stays,
     }
-    if k == 10 {
-        return plan_if(rows);
-    }
-    if k == 11 {
-        return plan_fix(types, rows);
-    }
-    if k == 14 {
-        return plan_isnil(rows);
-    }
-    if k == 17 {
-        return plan_project(rows);
-    }
-    if k == 18 {
-        return plan_lproject(rows);
-    }
-    if k == 19 {
-        return plan_let(rows);
-    }
-    Plan::Stays
 }

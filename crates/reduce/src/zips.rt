@@ -1,88 +1,49 @@
 // The rule of a zip: its arguments one by one, both halves of what it makes.
-ghost use Rattle.std.specs.Prelude.{◌≡◌, true, cond, ◌∷◌, ◌++◌, map, ℕ, ◌+◌, ◌*◌, ◌-◌, ◌≤◌, ◌<◌, length, get_or, take};
+ghost use Rattle.std.specs.Prelude.{IfSome, Some, ◌≡◌, true, false, cond, [], ◌∷◌, ◌++◌, map, ℕ, List, ◌+◌, ◌*◌, ◌-◌, ◌≤◌, ◌<◌, length, get_or};
 ghost use Rattle.layout.specs.Rows.{numbers, type_table, row_table, term_rows};
-ghost use Rattle.meaning.specs.Types.{Form, form_of, low};
+ghost use Rattle.meaning.specs.Types.{form_of, low};
 ghost use Rattle.meaning.specs.Terms.{row_of, n_no, is, size, sizes, tree_of, tree_at, grove};
 ghost use Rattle.meaning.specs.Bytes.{◌∧ᵇ◌};
 ghost use Rattle.meaning.specs.Steps.{is_list, ready, any_nil};
-ghost use Rattle.reduce.specs.Rule.{rule_of, size_if, rows_if, told, Redex};
-ghost use Rattle.reduce.specs.Plan.{row_no, zip_rows, ZipsFrom, ZipsAt};
+ghost use Rattle.reduce.specs.Rule.{rule_of, size_if, rows_if, Redex};
+ghost use Rattle.reduce.specs.Plan.{row_no, rule_rows, zip_rows, ZipsFrom};
 ghost use Rattle.put.specs.Put.{standing};
-ghost use Rattle.reduce.specs.Halves.{half_of, Halves, HalfAt, BoundsAt};
+ghost use Rattle.reduce.specs.Halves.{arguments, half_of, AllCons, HalfAt, BoundsAt, Zipping};
 ghost use Rattle.reduce.specs.Lists.{tree_zips_lists};
 ghost use Rattle.reduce.specs.Once.{MadeAtOnce};
+ghost use Rattle.reduce.specs.Taking.{Takes};
 
-use crate::{Outcome, places, puts};
+use crate::{places, puts};
 use layout::Row;
-use put::{Pass, Span};
+use layout::kinds::Kind;
+use layout::views::Types;
+use put::sinks::{Count, Sink, Table};
+use put::{Made, Span};
 
 // Whether the argument at a row is a list, if the mask's first bit asks for one.
-pub fn ready_at(rows: &[u8], at: usize, h: u8) -> bool
+fn ready_at(rows: &[u8], at: usize, h: u8) -> bool
     requires { at < length (row_table rows.now) }
     ensures { result ≡ cond (low h) (is_list (tree_at (map row_of (row_table rows.now)) at)) true }
 {
     if h % 2 != 1 {
         return true;
     }
-    let k = places::kind_of(rows, at);
-    if k == 12 {
-        return true;
-    }
-    k == 13
+    let r = places::row_of(rows, at);
+    r.is(Kind::Nil) || r.is(Kind::Cons)
 }
 
 // Whether the argument at a row is nil and the mask's first bit asks for a list.
-pub fn nil_at(rows: &[u8], at: usize, h: u8) -> bool
+fn nil_at(rows: &[u8], at: usize, h: u8) -> bool
     requires { at < length (row_table rows.now) }
     ensures { result ≡ (low h ∧ᵇ is 12 (tree_at (map row_of (row_table rows.now)) at)) }
 {
     if h % 2 != 1 {
         return false;
     }
-    let k = places::kind_of(rows, at);
-    k == 12
+    places::row_of(rows, at).is(Kind::Nil)
 }
 
-// Whether of n arguments from a row on those that are masked are nil or cons.
-pub fn all_lists(rows: &[u8], first: usize, n: usize, m: u8, bounds: &[u16]) -> bool
-    requires { BoundsAt (row_table rows.now) first n bounds.now × (first + sizes (grove (map row_of (row_table rows.now)) first n) ≤ length (row_table rows.now)) }
-    ensures { result ≡ ready m (grove (map row_of (row_table rows.now)) first n) }
-{
-    let mut h = m;
-    let mut at = first;
-    let mut j: usize = 0;
-    while j < n {
-        if ready_at(rows, at, h) {
-            at = layout::wide(bounds[j + 1]);
-            h = h / 2;
-            j += 1;
-        } else {
-            return false;
-        }
-    }
-    true
-}
-
-// Whether one of them is nil.
-pub fn any_nil(rows: &[u8], first: usize, n: usize, m: u8, bounds: &[u16]) -> bool
-    requires { BoundsAt (row_table rows.now) first n bounds.now × (first + sizes (grove (map row_of (row_table rows.now)) first n) ≤ length (row_table rows.now)) }
-    ensures { result ≡ any_nil m (grove (map row_of (row_table rows.now)) first n) }
-{
-    let mut h = m;
-    let mut at = first;
-    let mut j: usize = 0;
-    while j < n {
-        if nil_at(rows, at, h) {
-            return true;
-        }
-        at = layout::wide(bounds[j + 1]);
-        h = h / 2;
-        j += 1;
-    }
-    false
-}
-
-// The same of their heads alone, where the rows go on behind them: the last one is not walked.
+// Whether of n arguments from a row on those that are masked are nil or cons, where the rows go on behind them: the last one is not walked.
 fn lists_from(rows: &[u8], first: usize, n: usize, m: u8) -> bool
     requires { (length rows.now ≤ 32768) × (first + sizes (grove (map row_of (row_table rows.now)) first n) ≤ length (row_table rows.now)) }
     ensures { result ≡ ready m (grove (map row_of (row_table rows.now)) first n) }
@@ -92,15 +53,12 @@ fn lists_from(rows: &[u8], first: usize, n: usize, m: u8) -> bool
     }
     let mut at = first;
     let mut h = m;
-    let mut k = n;
-    while 1 < k {
-        if ready_at(rows, at, h) {
-            at = terms::far_end(rows, at);
-            h = h / 2;
-            k -= 1;
-        } else {
+    for j in 1..n {
+        if !ready_at(rows, at, h) {
             return false;
         }
+        at = terms::far_end(rows, at);
+        h /= 2;
     }
     ready_at(rows, at, h)
 }
@@ -110,26 +68,12 @@ pub fn zips_lists(rows: &[u8]) -> bool
     requires { (length rows.now ≤ 32768) × (size (tree_of (term_rows rows.now)) ≤ length (row_table rows.now)) }
     ensures { result ≡ true → tree_zips_lists (tree_of (term_rows rows.now)) ≡ true }
 {
-    let r = places::row_of(rows, 0);
-    if r.kind != 8 {
+    let call = places::row_of(rows, 0);
+    if !call.is(Kind::Apply) {
         return false;
     }
-    let c = places::row_of(rows, 1);
-    if c.kind != 15 {
-        return false;
-    }
-    lists_from(rows, terms::end_of(rows, 1), r.n as usize, c.n)
-}
-
-// One side of what a zip makes: the row where its function's rows begin, the arguments' first row, how many, the mask, and whether their tails are
-// meant or their heads.
-#[derive(Clone, Copy)]
-pub struct Half {
-    pub from: usize,
-    pub first: usize,
-    pub n: usize,
-    pub mask: u8,
-    pub tails: bool,
+    let zip = places::row_of(rows, 1);
+    zip.is(Kind::Zip) && lists_from(rows, terms::end_of(rows, 1), call.n as usize, zip.n)
 }
 
 // The rows of an argument that ends before row e, met under what is left of the mask: its head or its tail where it is masked, else all of it.
@@ -150,242 +94,204 @@ pub fn half_at(rows: &[u8], at: usize, e: usize, h: u8, tails: bool) -> Span
     }
 }
 
-// How many rows a zip's arguments have in one half.
-pub fn count_half(rows: &[u8], z: Half, bounds: &[u16]) -> usize
-    requires { Redex rows.now × Halves (row_table rows.now) z.first z.n z.mask × BoundsAt (row_table rows.now) z.first z.n bounds.now }
-    ensures { (result ≡ length (half_of (row_table rows.now) z.first z.n z.mask z.tails)) × (result ≤ 522240) }
-{
-    let n = z.n;
-    let tails = z.tails;
-    let mut h = z.mask;
-    let mut at = z.first;
-    let mut w: usize = 0;
-    let mut j: usize = 0;
-    while j < n {
-        let e = layout::wide(bounds[j + 1]);
-        let s = half_at(rows, at, e, h, tails);
-        w += s.to - s.from;
-        at = e;
-        h = h / 2;
-        j += 1;
-    }
-    w
-}
-
-// A zip's arguments in one half, written from row `start` of a table on; the row behind them.
-pub fn write_half(rows: &[u8], z: Half, to: &mut [u8], start: usize, bounds: &[u16]) -> usize
-    requires { Redex rows.now × Halves (row_table rows.now) z.first z.n z.mask × BoundsAt (row_table rows.now) z.first z.n bounds.now × (start + length (half_of (row_table rows.now) z.first z.n z.mask z.tails) ≤ length (row_table to.old)) }
-    ensures { (result ≡ start + length (half_of (row_table rows.now) z.first z.n z.mask z.tails)) × (take result (row_table to.new) ≡ take start (row_table to.old) ++ half_of (row_table rows.now) z.first z.n z.mask z.tails) }
-{
-    let n = z.n;
-    let tails = z.tails;
-    let mut h = z.mask;
-    let mut at = z.first;
-    let mut w = start;
-    let mut j: usize = 0;
-    while j < n {
-        let e = layout::wide(bounds[j + 1]);
-        let s = half_at(rows, at, e, h, tails);
-        let k = s.to - s.from;
-        put::copy_rows(to, w, rows, s.from, k);
-        w += k;
-        at = e;
-        h = h / 2;
-        j += 1;
-    }
-    w
-}
-
-// Of a cons that a zip makes, one side: a call's row, the function's rows, the arguments; the row behind them.
-pub fn write_side(
-    rows: &[u8],
-    r: Row,
-    z: Half,
-    to: &mut [u8],
-    start: usize,
-    bounds: &[u16],
-) -> usize
-    requires { Redex rows.now × Halves (row_table rows.now) z.first z.n z.mask × BoundsAt (row_table rows.now) z.first z.n bounds.now × (z.from ≤ z.first) × (start + (1 + (z.first - z.from) + length (half_of (row_table rows.now) z.first z.n z.mask z.tails)) ≤ length (row_table to.old)) }
-    ensures { (result ≡ start + (1 + (z.first - z.from) + length (half_of (row_table rows.now) z.first z.n z.mask z.tails))) × (take result (row_table to.new) ≡ take start (row_table to.old) ++ (numbers r ∷ (standing (row_table rows.now) z.from z.first ++ half_of (row_table rows.now) z.first z.n z.mask z.tails))) }
-{
-    let from = z.from;
-    let n = z.first - from;
-    put::write_row(to, start, r);
-    put::copy_rows(to, start + 1, rows, from, n);
-    write_half(rows, z, to, start + 1 + n, bounds)
-}
-
-// How many rows a zip of cons makes, whose arguments begin at a row.
-pub fn count_full(rows: &[u8], first: usize, bounds: &[u16]) -> usize
-    requires { Redex rows.now × ZipsAt (row_table rows.now) first × BoundsAt (row_table rows.now) first (n_no (row_no (row_table rows.now) 0)) bounds.now }
-    ensures { (form : ℕ → Form) → result ≡ length (zip_rows form (row_table rows.now) first) }
-{
-    let r = places::row_of(rows, 0);
-    let c = places::row_of(rows, 1);
-    let n = r.n as usize;
-    let m = c.n;
-    let a = count_half(
-        rows,
-        Half {
-            from: 2,
-            first: first,
-            n: n,
-            mask: m,
-            tails: false,
-        },
-        bounds,
-    );
-    let b = count_half(
-        rows,
-        Half {
-            from: 1,
-            first: first,
-            n: n,
-            mask: m,
-            tails: true,
-        },
-        bounds,
-    );
-    3 + (first - 2) + a + (first - 1) + b
-}
-
-// The rows of a zip of cons.
-pub fn write_full(types: &[u8], rows: &[u8], first: usize, bounds: &[u16], to: &mut [u8])
-    requires { Redex rows.now × ZipsAt (row_table rows.now) first × BoundsAt (row_table rows.now) first (n_no (row_no (row_table rows.now) 0)) bounds.now × (length to.old ≡ 8 * length (zip_rows (form_of (type_table types.now)) (row_table rows.now) first)) }
-    ensures { row_table to.new ≡ zip_rows (form_of (type_table types.now)) (row_table rows.now) first }
-{
-    let r = places::row_of(rows, 0);
-    let c = places::row_of(rows, 1);
-    let e = puts::elem_of(types, r.ty);
-    let n = r.n as usize;
-    let m = c.n;
-    put::write_row(
-        to,
-        0,
-        Row {
-            kind: 13,
-            n: 0,
-            ty: r.ty,
-            word: 0,
-        },
-    );
-    let w = write_side(
-        rows,
-        Row {
-            kind: 8,
-            n: r.n,
-            ty: e,
-            word: 0,
-        },
-        Half {
-            from: 2,
-            first: first,
-            n: n,
-            mask: m,
-            tails: false,
-        },
-        to,
-        1,
-        bounds,
-    );
-    write_side(
-        rows,
-        Row {
-            kind: 8,
-            n: r.n,
-            ty: r.ty,
-            word: 0,
-        },
-        Half {
-            from: 1,
-            first: first,
-            n: n,
-            mask: m,
-            tails: true,
-        },
-        to,
-        w,
-        bounds,
-    );
-}
-
-// The rows that a zip makes, into a table that may have more room, where its arguments' places are known; unknown where it stays or there is no room.
-pub fn make_zip(types: &[u8], rows: &[u8], first: usize, bounds: &[u16], to: &mut [u8]) -> Pass
-    requires { Redex rows.now × ZipsFrom (row_table rows.now) first × BoundsAt (row_table rows.now) first (n_no (row_no (row_table rows.now) 0)) bounds.now × (length to.old ≤ 32768) }
-    ensures { MadeAtOnce (form_of (type_table types.now)) (row_table rows.now) (row_table to.new) result }
-{
-    let r = places::row_of(rows, 0);
-    let c = places::row_of(rows, 1);
-    let n = r.n as usize;
-    let m = c.n;
-    if !all_lists(rows, first, n, m, bounds) {
-        return Pass::Unknown;
-    }
-    let room = layout::term_rows(to);
-    let old = layout::term_rows(rows);
-    if any_nil(rows, first, n, m, bounds) {
-        if room == 0 {
-            return Pass::Unknown;
-        }
-        crate::write_leaf(rows, 12, &mut to[..layout::TERM_ROW]);
-        return Pass::Made(old, 1);
-    }
-    let new = count_full(rows, first, bounds);
-    if room < new {
-        return Pass::Unknown;
-    }
-    let e = layout::TERM_ROW * new;
-    write_full(types, rows, first, bounds, &mut to[..e]);
-    Pass::Made(old, new)
-}
-
 // Where each of a zip's n arguments begins, from row `first` on. The last one ends where the rows end, so it is not walked.
 fn zip_bounds(rows: &[u8], first: usize, n: usize, bounds: &mut [u16])
     requires { (length bounds.old ≡ 9) × (length rows.now ≤ 16384) × (n ≤ 8) × (first + sizes (grove (map row_of (row_table rows.now)) first n) ≡ length (row_table rows.now)) }
     ensures { (j : ℕ) → j ≤ n → get_or bounds.new j 0 ≡ first + sizes (grove (map row_of (row_table rows.now)) first j) }
 {
     if n == 0 {
-        puts::fill_bounds(rows, first, n, bounds);
+        puts::fill_bounds::<false>(rows, first, n, bounds);
         return;
     }
-    puts::fill_bounds(rows, first, n - 1, bounds);
+    puts::fill_bounds::<false>(rows, first, n - 1, bounds);
     bounds[n] = layout::term_rows(rows) as u16;
 }
 
-// Of a zip: "When all are nil or cons: any nil gives nil; otherwise a cons". What it makes, counted; the arguments begin at a row.
-pub fn count_zip(rows: &[u8], first: usize) -> Outcome
-    requires { Redex rows.now × ZipsFrom (row_table rows.now) first }
-    ensures { (form : ℕ → Form) → told result ≡ size_if (rule_of form (tree_of (term_rows rows.now))) }
+// A row goes to a sink. Whether there was room.
+fn add<S: Sink>(sink: &mut S, r: Row) -> bool
+    requires { (l : List (List ℕ)) × S.holds sink.old l }
+    ensures { Takes S.holds S.room S.loan sink.old sink.new result (numbers r ∷ []) }
 {
-    let r = places::row_of(rows, 0);
-    let c = places::row_of(rows, 1);
-    let n = r.n as usize;
-    let m = c.n;
-    let mut bounds = [0u16; 9];
-    zip_bounds(rows, first, n, &mut bounds);
-    if all_lists(rows, first, n, m, &bounds) {
-        if any_nil(rows, first, n, m, &bounds) {
-            return Outcome::Goes(1);
-        }
-        return Outcome::Goes(count_full(rows, first, &bounds));
-    }
-    Outcome::Stays
+    let mut bytes = [0u8; layout::TERM_ROW];
+    put::write_row(&mut bytes, 0, r);
+    sink.take(&bytes, Span { from: 0, to: 1 })
 }
 
-// The rows that it makes, into a table of just as many.
-pub fn write_zip(types: &[u8], rows: &[u8], first: usize, to: &mut [u8])
-    requires { Redex rows.now × ZipsFrom (row_table rows.now) first × (0 < length to.old) × (length to.old ≡ 8 * length (rows_if (rule_of (form_of (type_table types.now)) (tree_of (term_rows rows.now))))) }
-    ensures { row_table to.new ≡ rows_if (rule_of (form_of (type_table types.now)) (tree_of (term_rows rows.now))) }
-{
-    let r = places::row_of(rows, 0);
-    let c = places::row_of(rows, 1);
-    let n = r.n as usize;
-    let m = c.n;
-    let mut bounds = [0u16; 9];
-    zip_bounds(rows, first, n, &mut bounds);
-    if any_nil(rows, first, n, m, &bounds) {
-        crate::write_leaf(rows, 12, to);
-        return;
+// A call of a zip: its rows, where its arguments begin, how many there are, the mask, and where each of them stands.
+#[derive(Clone, Copy)]
+pub(crate) struct Zip<'a> {
+    rows: &'a [u8],
+    first: usize,
+    n: usize,
+    mask: u8,
+    bounds: [u16; 9],
+    ghost reads: { Zipping rows.now first n mask bounds },
+}
+
+impl<'a> Zip<'a> {
+    // Of rows whose arguments stand where the bounds say.
+    pub(crate) fn new(rows: &'a [u8], first: usize, bounds: [u16; 9]) -> Zip<'a>
+        requires { Redex rows.now × ZipsFrom (row_table rows.now) first × BoundsAt (row_table rows.now) first (n_no (row_no (row_table rows.now) 0)) bounds }
+        ensures { result.rows.now ≡ rows.now }
+    {
+        Zip {
+            rows,
+            first,
+            n: places::row_of(rows, 0).n as usize,
+            mask: places::row_of(rows, 1).n,
+            bounds,
+        }
     }
-    write_full(types, rows, first, &bounds, to);
+
+    // Of rows whose last argument ends where they end.
+    pub(crate) fn of(rows: &'a [u8], first: usize) -> Zip<'a>
+        requires { Redex rows.now × ZipsFrom (row_table rows.now) first }
+        ensures { result.rows.now ≡ rows.now }
+    {
+        let mut bounds = [0u16; 9];
+        zip_bounds(rows, first, places::row_of(rows, 0).n as usize, &mut bounds);
+        Zip::new(rows, first, bounds)
+    }
+
+    // Whether those of its arguments that are masked are nil or cons. It and the next are two short loops: with one loop over a closure each would need
+    // a law of its own that ties the meaning's word to the closure's, and the two would be no shorter.
+    fn all_lists(&self) -> bool
+        ensures { result ≡ ready self.now.mask (arguments self.now.rows.now self.now.first self.now.n) }
+    {
+        let mut h = self.mask;
+        let mut at = self.first;
+        for j in 0..self.n {
+            if !ready_at(self.rows, at, h) {
+                return false;
+            }
+            at = layout::wide(self.bounds[j + 1]);
+            h /= 2;
+        }
+        true
+    }
+
+    // Whether one of them is nil.
+    fn any_nil(&self) -> bool
+        ensures { result ≡ any_nil self.now.mask (arguments self.now.rows.now self.now.first self.now.n) }
+    {
+        let mut h = self.mask;
+        let mut at = self.first;
+        for j in 0..self.n {
+            if nil_at(self.rows, at, h) {
+                return true;
+            }
+            at = layout::wide(self.bounds[j + 1]);
+            h /= 2;
+        }
+        false
+    }
+
+    // The rows of its arguments go to a sink, of those that are masked the heads or the tails. Whether there was room.
+    fn half<S: Sink>(&self, tails: bool, sink: &mut S) -> bool
+        requires cons { AllCons self.now.rows.now self.now.first self.now.n self.now.mask }
+        requires open { (l : List (List ℕ)) × S.holds sink.old l }
+        ensures { Takes S.holds S.room S.loan sink.old sink.new result (half_of (row_table self.now.rows.now) self.now.first self.now.n self.now.mask tails) }
+    {
+        let mut h = self.mask;
+        let mut at = self.first;
+        for j in 0..self.n {
+            let e = layout::wide(self.bounds[j + 1]);
+            let s = half_at(self.rows, at, e, h, tails);
+            if !sink.take(self.rows, s) {
+                return false;
+            }
+            at = e;
+            h /= 2;
+        }
+        true
+    }
+
+    // Of the cons that it makes, one side: the row of a call, its function's rows, which begin at a row, and the arguments.
+    fn side<S: Sink>(&self, r: Row, from: usize, tails: bool, sink: &mut S) -> bool
+        requires cons { AllCons self.now.rows.now self.now.first self.now.n self.now.mask }
+        requires open { (l : List (List ℕ)) × S.holds sink.old l }
+        requires function { from ≤ self.now.first }
+        ensures { Takes S.holds S.room S.loan sink.old sink.new result (numbers r ∷ (standing (row_table self.now.rows.now) from self.now.first ++ half_of (row_table self.now.rows.now) self.now.first self.now.n self.now.mask tails)) }
+    {
+        let function = Span {
+            from,
+            to: self.first,
+        };
+        if !add(sink, r) {
+            return false;
+        }
+        if !sink.take(self.rows, function) {
+            return false;
+        }
+        self.half(tails, sink)
+    }
+
+    // The rows of the cons that it makes.
+    fn cons<S: Sink>(&self, types: &Types, sink: &mut S) -> bool
+        requires cons { AllCons self.now.rows.now self.now.first self.now.n self.now.mask }
+        requires open { (l : List (List ℕ)) × S.holds sink.old l }
+        ensures { Takes S.holds S.room S.loan sink.old sink.new result (zip_rows (form_of types.now) (row_table self.now.rows.now) self.now.first) }
+    {
+        let call = places::row_of(self.rows, 0);
+        let front = places::made(Kind::Cons, 0, call.ty);
+        let heads = places::made(Kind::Apply, call.n, puts::elem_of(types, call.ty));
+        let tails = places::made(Kind::Apply, call.n, call.ty);
+        if !add(sink, front) {
+            return false;
+        }
+        if !self.side(heads, 2, false, sink) {
+            return false;
+        }
+        self.side(tails, 1, true, sink)
+    }
+
+    // The rows of what it makes where its masked arguments are lists: "any nil gives nil; otherwise a cons".
+    fn made<S: Sink>(&self, types: &Types, sink: &mut S) -> bool
+        requires lists { ready self.now.mask (arguments self.now.rows.now self.now.first self.now.n) ≡ true }
+        requires open { (l : List (List ℕ)) × S.holds sink.old l }
+        ensures { (x : List (List ℕ)) × (rule_rows (form_of types.now) (row_table self.now.rows.now) ≡ Some x) × (length x ≤ 16384) × Takes S.holds S.room S.loan sink.old sink.new result x }
+    {
+        if self.any_nil() {
+            return add(
+                sink,
+                places::made(Kind::Nil, 0, places::row_of(self.rows, 0).ty),
+            );
+        }
+        self.cons(types, sink)
+    }
+
+    // How many rows it makes.
+    pub(crate) fn count(&self, types: &Types) -> Option<usize>
+        ensures { result ≡ size_if (rule_of (form_of types.now) (tree_of (term_rows self.now.rows.now))) }
+    {
+        if !self.all_lists() {
+            return None;
+        }
+        let mut count = Count { rows: 0 };
+        self.made(types, &mut count);
+        Some(count.rows)
+    }
+
+    // The rows that it makes, into a table of just as many.
+    pub(crate) fn write(&self, types: &Types, to: &mut [u8])
+        requires { (0 < length to.old) × (length to.old ≡ 8 * length (rows_if (rule_of (form_of types.now) (tree_of (term_rows self.now.rows.now))))) }
+        ensures { row_table to.new ≡ rows_if (rule_of (form_of types.now) (tree_of (term_rows self.now.rows.now))) }
+    {
+        let mut table = Table { to, rows: 0 };
+        self.made(types, &mut table);
+    }
+
+    // The same, into a table that may have more room; none where it stays or there is no room.
+    pub(crate) fn make(&self, types: &Types, to: &mut [u8]) -> Option<Made>
+        ensures { IfSome result (λ m. MadeAtOnce (form_of types.now) (row_table self.now.rows.now) (row_table to.new) m) }
+    {
+        let mut table = Table { to, rows: 0 };
+        if self.all_lists() && self.made(types, &mut table) {
+            return Some(Made {
+                end: layout::term_rows(self.rows),
+                rows: table.rows,
+            });
+        }
+        None
+    }
 }

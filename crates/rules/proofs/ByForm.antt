@@ -10,7 +10,7 @@ use borrow.Author.Tests.{ne_eqb}
 use Rattle.meaning.specs.Bytes.{◌∧ᵇ◌}
 use Rattle.meaning.specs.Types.{Base, Str, File, Truth, Side, ntv, frn, Param, Form, absent, base, f_list, f_tuple, f_fun, types, params, form_no, result_no, parts, form_row}
 use Rattle.meaning.specs.Typing.{base_no, is_base, when_list, when_tuple, when_fun}
-use Rattle.rules.specs.Forms.{is_function}
+use Rattle.layout.specs.Forms.{is_function}
 use Rattle.terms.proofs.ByKind.{Below, below}
 
 -- the form that a number makes of a result and parts

@@ -3,13 +3,12 @@ use Prim.Native.Nat.{ℕ, zero, suc, ◌+◌, ◌-◌, ◌/◌, ◌%◌, ◌<◌
 use mathlib.Core.Path.{◌≡◌, refl, ap, ◌∙◌}
 use mathlib.Core.Bool.{Bool, true, false}
 use mathlib.Core.List.{List, [], ◌∷◌}
-use mathlib.Core.Option.{none, some}
 use native.Mathlib.Omega.{arith}
 use lib.Dec.{eqb}
-use lib.ListN.{length, get_or, drop}
+use lib.ListN.{length, get_or, drop, drop_of_length-le, length-drop}
 use Rattle.meaning.specs.Bytes.{◌∧ᵇ◌}
 use Rattle.meaning.specs.Types.{Param, Form, names, types, place, low, rest}
-use Rattle.meaning.specs.Typing.{same_params, masked_ok, zipped_ok}
+use Rattle.meaning.specs.Typing.{same_params, given, masked_ok, zipped_ok}
 
 pub types-length : (ps : List Param) → length (types ps) ≡ length ps
 unfolding types
@@ -17,29 +16,33 @@ types-length [] = refl
 types-length (p ∷ ps) = ap suc (types-length ps)
 
 -- the n-th, counted from 1
-pub place_none : (n : ℕ) (ts : List ℕ) → n ≡ 0 → place n ts ≡ none
-unfolding place
-place_none zero [] e = refl
-place_none zero (t ∷ ts) e = refl
-place_none (suc n) ts e = absurd (omega arith)
+module _ (ts : List ℕ) (u : ℕ) where
+  pub given_none : given (place 0 ts) u ≡ false
+  unfolding place given
+  given_none = go ts
+    where
+      go : (ts : List ℕ) → given (place 0 ts) u ≡ false
+      go [] = refl
+      go (t ∷ ts) = refl
 
-pub place_at : (n : ℕ) (ts : List ℕ) → (n ≡ 0 → ⊥) → n ≤ length ts → place n ts ≡ some (get_or ts (n - 1) 0)
-unfolding place
-place_at zero ts z h = absurd (z refl)
-place_at (suc n) [] z h = absurd (omega arith)
-place_at (suc zero) (t ∷ ts) z h = refl
-place_at (suc (suc n)) (t ∷ ts) z h =
+pub given-beyond : (n : ℕ) (ts : List ℕ) (u : ℕ) → length ts < n → given (place n ts) u ≡ false
+unfolding place given
+given-beyond zero ts u h = absurd (omega arith)
+given-beyond (suc n) [] u h = refl
+given-beyond (suc zero) (t ∷ ts) u h = absurd (omega arith)
+given-beyond (suc (suc n)) (t ∷ ts) u h = given-beyond (suc n) ts u (omega arith)
+
+pub given-at : (n : ℕ) (ts : List ℕ) (u : ℕ) → 0 < n → n ≤ length ts → given (place n ts) u ≡ eqb (get_or ts (n - 1) 0) u
+unfolding place given
+given-at zero ts u z h = absurd (omega arith)
+given-at (suc n) [] u z h = absurd (omega arith)
+given-at (suc zero) (t ∷ ts) u z h = refl
+given-at (suc (suc n)) (t ∷ ts) u z h =
     let e : suc (suc n) - 1 ≡ suc n = omega arith in
     let q : suc n - 1 ≡ n = omega arith in
-    rw e (place_at (suc n) ts (omega arith) (omega arith) ∙ rw q refl)
+    rw e (given-at (suc n) ts u (omega arith) (omega arith) ∙ rw q refl)
 
-pub place-beyond : (n : ℕ) (ts : List ℕ) → length ts < n → place n ts ≡ none
-unfolding place
-place-beyond zero [] h = refl
-place-beyond zero (t ∷ ts) h = absurd (omega arith)
-place-beyond (suc n) [] h = refl
-place-beyond (suc zero) (t ∷ ts) h = absurd (omega arith)
-place-beyond (suc (suc n)) (t ∷ ts) h = place-beyond (suc n) ts (omega arith)
+pub ruleset parts_placed = (given_none, given-beyond, given-at, types-length)
 
 -- the parts from the k-th on
 pub parts-front : (ps : List Param) (k : ℕ) → k < length ps → drop k ps ≡ record { name = get_or (names ps) k 0; type = get_or (types ps) k 0 } ∷ drop (k
@@ -48,6 +51,15 @@ unfolding names types
 parts-front [] k h = absurd (omega arith)
 parts-front (p ∷ ps) zero h = refl
 parts-front (p ∷ ps) (suc k) h = let e : suc k + 1 ≡ suc (k + 1) = omega arith in rw e (parts-front ps k (omega arith))
+
+-- tests, the first one decided
+pub and_first : (b : Bool) → true ∧ᵇ b ≡ b
+unfolding ◌∧ᵇ◌
+and_first b = refl
+
+pub and_none : (b : Bool) → false ∧ᵇ b ≡ false
+unfolding ◌∧ᵇ◌
+and_none b = refl
 
 no_more : (a b : Bool) → a ∧ᵇ (b ∧ᵇ false) ≡ false
 unfolding ◌∧ᵇ◌
@@ -69,11 +81,11 @@ params-lengths [] (q ∷ qs) h = refl
 params-lengths (p ∷ ps) [] h = refl
 params-lengths (p ∷ ps) (q ∷ qs) h = rw (params-lengths ps qs (λ e. h (ap suc e))) (no_more (eqb p.name q.name) (eqb p.type q.type))
 
-pub params-end : (ps qs : List Param) → length ps ≡ 0 → length qs ≡ 0 → same_params ps qs ≡ true
+pub params-end : (ps qs : List Param) (k j : ℕ) → length ps ≤ k → length qs ≤ j → same_params (drop k ps) (drop j qs) ≡ true
 unfolding same_params
-params-end [] [] h g = refl
-params-end [] (q ∷ qs) h g = absurd (omega arith)
-params-end (p ∷ ps) qs h g = absurd (omega arith)
+params-end ps qs k j h g = rw (drop_of_length-le ps {i = k} h, drop_of_length-le qs {i = j} g) refl
+
+pub ruleset params_alike = (params_same, params-lengths, params-end, length-drop, and_first, and_none)
 
 -- zipped parts
 module _ (form : ℕ → Form) where
@@ -92,8 +104,8 @@ module _ (form : ℕ → Form) where
   zipped-lengths m (p ∷ ps) (q ∷ qs) h =
       rw (zipped-lengths (rest m) ps qs (λ e. h (ap suc e))) (no_more (eqb q.name p.name) (masked_ok form (low m) p.type q.type))
 
-  pub zipped-end : (m : ℕ) (ps qs : List Param) → length ps ≡ 0 → length qs ≡ 0 → zipped_ok form m ps qs ≡ eqb m 0
+  pub zipped-end : (m : ℕ) (ps qs : List Param) (k : ℕ) → length ps ≤ k → length qs ≤ k → zipped_ok form m (drop k ps) (drop k qs) ≡ eqb m 0
   unfolding zipped_ok
-  zipped-end m [] [] h g = refl
-  zipped-end m [] (q ∷ qs) h g = absurd (omega arith)
-  zipped-end m (p ∷ ps) qs h g = absurd (omega arith)
+  zipped-end m ps qs k h g = rw (drop_of_length-le ps {i = k} h, drop_of_length-le qs {i = k} g) refl
+
+pub ruleset zipped_alike = (zipped-more, zipped-lengths, zipped-end, and_first, and_none)

@@ -12,15 +12,10 @@ use Rattle.meaning.specs.Bytes.{◌∧ᵇ◌}
 use Rattle.meaning.specs.Types.{Base, Truth, Side, ntv, frn, Param, Form, types, params, form_no, result_no, parts, form_of, Ctx, place, same_numbers}
 use Rattle.meaning.specs.Terms.{Lit, lit, lambda, foreign, apply, ite, fix, nil, cons, isnil, zip, tuple, project, lproject}
 use Rattle.meaning.specs.Typing.{Tys, ⟨⟩, ◌▹◌, list, lit_base, base_no, is_base, when_list, when_tuple, when_fun, when_more, same_side, same_params, given, zipped_ok, rule_ok}
-use Rattle.rules.specs.Forms.{says, forms, part_types, is_function}
+use Rattle.rules.specs.Forms.{forms}
+use Rattle.layout.specs.Forms.{says, part_types, is_function}
+use Rattle.rules.proofs.ByPart.{and_first, and_none}
 use Rattle.rules.proofs.ByForm.{base-row, list-row, tuple-row, fun-row, params-row}
-
--- a number that code has, against a test of the meaning
-pub is_eq : (x y z : ℕ) → x ≡ y → x ≡ z → eqb y z ≡ true
-is_eq x y z e q = eq-eqb y z (sym e ∙ q)
-
-pub not-eq : (x y z : ℕ) → x ≡ y → (x ≡ z → ⊥) → eqb y z ≡ false
-not-eq x y z e q = ne_eqb y z (λ p. q (e ∙ p))
 
 -- tests in another order
 pub and_comm : (a b : Bool) → a ∧ᵇ b ≡ b ∧ᵇ a
@@ -78,7 +73,7 @@ unfolding when_more types place given ◌∧ᵇ◌
 first_part [] ty k = refl
 first_part (p ∷ ps) ty k = refl
 
-module _ (s : List ℕ) where
+module _ (s : List (List ℕ)) where
   abbrev F : ℕ → Form
   F = forms s
 
@@ -103,20 +98,23 @@ module _ (s : List ℕ) where
   unfolding form_of says
   fun-says t k = fun-row (says s t) k
 
+  pub params-says : (t : ℕ) → params (forms s t) ≡ cond (is_function (form_no (says s t))) (parts (says s t)) []
+  unfolding form_of says
+  params-says t = params-row (says s t)
+
   module _ (t f : ℕ) (e : f ≡ form_no (says s t)) where
-    params-says : params (forms s t) ≡ cond (is_function f) (parts (says s t)) []
-    unfolding form_of says
-    params-says = params-row (says s t) ∙ ap (λ (x : ℕ). cond (is_function x) (parts (says s t)) []) (sym e)
+    params-by : params (forms s t) ≡ cond (is_function f) (parts (says s t)) []
+    params-by = params-says t ∙ ap (λ (x : ℕ). cond (is_function x) (parts (says s t)) []) (sym e)
 
     pub params-few : f < 6 → params (forms s t) ≡ []
-    params-few h = params-says ∙ rw (ne_eqb f 6 (omega arith), ne_eqb f 7 (omega arith)) refl
+    params-few h = params-by ∙ rw (ne_eqb f 6 (omega arith), ne_eqb f 7 (omega arith)) refl
 
     pub params-high : 7 < f → params (forms s t) ≡ []
-    params-high h = params-says ∙ rw (ne_eqb f 6 (omega arith), ne_eqb f 7 (omega arith)) refl
+    params-high h = params-by ∙ rw (ne_eqb f 6 (omega arith), ne_eqb f 7 (omega arith)) refl
 
     pub params-all : 6 ≤ f → f ≤ 7 → params (forms s t) ≡ parts (says s t)
     params-all h g =
-        params-says
+        params-by
         ∙ elim (ℕ_discrete f 6) [
           | yes q ↦ rw (eq-eqb f 6 q) refl
           | no q ↦ let z : f ≡ 7 = omega arith in rw (ne_eqb f 6 q, eq-eqb f 7 z) refl
@@ -209,3 +207,5 @@ module _ (s : List ℕ) where
           fun-says ty (λ s' qs u. same_side s' frn ∧ᵇ (when_list (F u) (λ e. eqb e (result_no (R c))) ∧ᵇ zipped_ok F m (parts (R c)) qs)),
         )
         (same-sides (form_no (R c)) (form_no (R ty)) x)
+
+pub ruleset rules_read = (and_first, and_none, list-says, rule-lambda, rule-if, rule-cons, rule-isnil, rule-project, rule-lproject, rule-fix, rule-zip)

@@ -1,22 +1,27 @@
 -- A name among those bound at once. Assumes nothing.
-use Prim.Native.Nat.{ℕ}
-use mathlib.Core.Path.{◌≡◌, refl, sym}
-use mathlib.Core.List.{List, [], ◌∷◌}
-use mathlib.Core.Option.{none, some}
-use borrow.Author.Tests.{eq-eqb, ne_eqb}
-use lib.ListN.{drop}
-use Rattle.meaning.specs.Types.{Param, find}
+use Prim.Native.Nat.{ℕ, ◌+◌, ◌<◌, ◌≤◌}
+use mathlib.Core.Bool.{cond}
+use lib.Dec.{eqb}
+use mathlib.Core.Path.{◌≡◌, refl}
+use mathlib.Core.List.{List, []}
+use Rattle.std.specs.Prelude.{None, Some}
+use lib.ListN.{length, get_or, drop, drop_of_length-le}
+use Rattle.meaning.specs.Types.{Param, names, types, find}
+use Rattle.rules.proofs.ByPart.{parts-front}
+use Rattle.rules.proofs.ByRule.{params-says}
 
-pub find-here : (ps : List Param) (k x : ℕ) (q : List Param) (y t : ℕ) → drop k ps ≡ record { name = y; type = t } ∷ q → y ≡ x → find (drop k ps) x ≡
-    some t
+-- the names from the k-th on
+pub find-part : (ps : List Param) (k x : ℕ) → k < length ps
+    → find (drop k ps) x ≡ cond (eqb x (get_or (names ps) k 0)) (Some (get_or (types ps) k 0)) (find (drop (k + 1) ps) x)
 unfolding find
-find-here ps k x q y t e h = rw (e, eq-eqb x y (sym h)) refl
+find-part ps k x h = rw (parts-front ps k h) refl
 
-pub find-later : (ps : List Param) (k x : ℕ) (q : List Param) (y t : ℕ) → drop k ps ≡ record { name = y; type = t } ∷ q → (y ≡ x → ⊥) → find (drop k
-    ps) x ≡ find q x
+pub find-end : (ps : List Param) (k x : ℕ) → length ps ≤ k → find (drop k ps) x ≡ None
 unfolding find
-find-later ps k x q y t e h = rw (e, ne_eqb x y (λ z. h (sym z))) refl
+find-end ps k x h = rw (drop_of_length-le ps {i = k} h) refl
 
-pub find_none : (ps : List Param) (x : ℕ) → ps ≡ [] → find ps x ≡ none
+pub find-empty : (x : ℕ) → find [] x ≡ None
 unfolding find
-find_none ps x e = rw e refl
+find-empty x = refl
+
+pub ruleset names_found = (params-says, find-part, find-end, find-empty)

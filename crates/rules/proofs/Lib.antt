@@ -1,6 +1,5 @@
-pub mod Reading
 pub mod ByForm
 pub mod ByRule
 pub mod ByPart
-pub mod ByKind
 pub mod Finding
+pub mod Fixed

@@ -1,27 +1,20 @@
 -- What the type of a number says, and the types that a few children state. Assumes nothing.
-use Rattle.std.specs.Prelude.{ℕ, zero, suc, Bool, true, cond, ◌≡◌, List, [], eqb, get_or}
-use Rattle.meaning.specs.Types.{Form, form_of, parts, types}
-use Rattle.layout.specs.Rows.{type_table}
-use Rattle.meaning.specs.Typing.{Tys, ⟨⟩, ◌▹◌}
+use Rattle.std.specs.Prelude.{ℕ, zero, suc, Bool, ◌≡◌, List}
+use Rattle.meaning.specs.Types.{Form, form_of, empty}
+use Rattle.meaning.specs.Terms.{Head, arity}
+use Rattle.meaning.specs.Typing.{Tys, ⟨⟩, ◌▹◌, rule_ok}
 
--- the numbers of type t of a table; none beyond it
-unfoldable pub says : List ℕ → ℕ → List ℕ
-says s t = get_or (type_table s) t []
-
-abbrev pub forms : List ℕ → ℕ → Form
-forms s = form_of (type_table s)
-
-abbrev pub part_types : List ℕ → List ℕ
-part_types r = types (parts r)
-
--- native or foreign function
-abbrev pub is_function : ℕ → Bool
-is_function f = cond (eqb f 6) true (eqb f 7)
+abbrev pub forms : List (List ℕ) → ℕ → Form
+forms ts = form_of ts
 
 -- the first n of three types
 unfoldable pub three : (n : ℕ) → ℕ → ℕ → ℕ → Tys n
 three zero a b c = ⟨⟩
 three (suc n) a b c = a ▹ three n b c 0
+
+-- the rule of a head with at most three children, over the types that they state
+unfoldable pub fixed_rule : (ℕ → Form) → Head → ℕ → ℕ → ℕ → ℕ → Bool
+fixed_rule F h ty a b c = rule_ok F empty h ty (three (arity h) a b c)
 
 -- a kind whose children are at most three and whose rule asks only what they state
 pub record FixedKind (k : ℕ) : Type 0 where

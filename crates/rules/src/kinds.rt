@@ -1,201 +1,150 @@
 // The rules of rows over the types that their children state; each answers as the meaning's rule does, whatever names are around it.
+#![tactic(auto, using(crate::proofs::ByRule::rules_read))]
+
 ghost use Rattle.std.specs.Prelude.{◌≡◌, eqb, drop};
 ghost use Rattle.meaning.specs.Types.{parts, empty, place};
 ghost use Rattle.meaning.specs.Terms.{lambda, ite, fix, cons, isnil, zip, project, lproject};
 ghost use Rattle.meaning.specs.Typing.{⟨⟩, ◌▹◌, when_list, given, same_params, masked_ok, zipped_ok, rule_ok};
-ghost use Rattle.rules.specs.Forms.{says, forms, part_types, is_function};
+ghost use Rattle.rules.specs.Forms.{forms};
+ghost use Rattle.layout.specs.Forms.{says, part_types, is_function};
 
-use crate::forms;
+use layout::forms::Form;
+use layout::views::Types;
 
 // Native or foreign function.
 pub fn is_function(f: u8) -> bool
     ensures { result ≡ is_function f }
 {
-    if f == 6 {
-        return true;
-    }
-    f == 7
+    f == Form::Native.number() || f == Form::Foreign.number()
 }
 
 // A list of e.
-fn is_list_of(types: &[u8], t: u16, e: u16) -> bool
+fn is_list_of(types: &Types, t: u16, e: u16) -> bool
     ensures { result ≡ when_list (forms types.now t) (λ x. eqb x e) }
 {
-    if forms::form_of(types, t) != 4 {
-        return false;
-    }
-    forms::result_of(types, t) == e
+    types.is(t, Form::List) && types.result_of(t) == e
 }
 
 // The n-th part of t, counted from 1, is of type u.
-fn part_is(types: &[u8], t: u16, n: u8, u: u16) -> bool
+#[tactic(auto, using(crate::proofs::ByPart::parts_placed))]
+fn part_is(types: &Types, t: u16, n: u8, u: u16) -> bool
     ensures { result ≡ given (place n (part_types (says types.now t))) u }
 {
     let i = n as usize;
-    if i == 0 {
-        return false;
-    }
-    if forms::parts_of(types, t) < i {
-        return false;
-    }
-    forms::type_of(types, t, i - 1) == u
+    0 < i && i <= types.parts_of(t) && types.type_of(t, i - 1) == u
 }
 
 // The parts of t are those of c but the first.
-fn same_params(types: &[u8], t: u16, c: u16) -> bool
+#[tactic(auto, using(crate::proofs::ByPart::params_alike))]
+fn same_params(types: &Types, t: u16, c: u16) -> bool
     ensures { result ≡ same_params (parts (says types.now t)) (drop 1 (parts (says types.now c))) }
 {
-    let n = forms::parts_of(types, t);
-    let m = forms::parts_of(types, c);
-    if layout::less_one(m) != n {
+    let n = types.parts_of(t);
+    if layout::less_one(types.parts_of(c)) != n {
         return false;
     }
-    let mut k: usize = 0;
-    while k < n {
-        if forms::name_of(types, t, k) != forms::name_of(types, c, k + 1) {
+    for k in 0..n {
+        if types.name_of(t, k) != types.name_of(c, k + 1) {
             return false;
         }
-        if forms::type_of(types, t, k) != forms::type_of(types, c, k + 1) {
+        if types.type_of(t, k) != types.type_of(c, k + 1) {
             return false;
         }
-        k += 1;
     }
     true
 }
 
 // The type q of a zipped argument around p.
-fn masked_ok(types: &[u8], bit: u8, p: u16, q: u16) -> bool
-    ensures { result ≡ masked_ok (forms types.now) (eqb bit 1) p q }
+#[tactic(auto, unfolding(meaning::specs::Typing::masked_ok))]
+fn masked_ok(types: &Types, zipped: bool, p: u16, q: u16) -> bool
+    ensures { result ≡ masked_ok (forms types.now) zipped p q }
 {
-    if bit == 1 {
-        return is_list_of(types, q, p);
+    if zipped {
+        is_list_of(types, q, p)
+    } else {
+        q == p
     }
-    q == p
 }
 
-// The parts of t are those of c by the mask.
-fn zipped_ok(types: &[u8], mask: u8, c: u16, t: u16) -> bool
+// The parts of t are those of c by the mask. A walk of its own: the mask moves along with the parts.
+#[tactic(auto, using(crate::proofs::ByPart::zipped_alike))]
+fn zipped_ok(types: &Types, mask: u8, c: u16, t: u16) -> bool
     ensures { result ≡ zipped_ok (forms types.now) mask (parts (says types.now c)) (parts (says types.now t)) }
 {
-    let n = forms::parts_of(types, c);
-    if forms::parts_of(types, t) != n {
+    let n = types.parts_of(c);
+    if types.parts_of(t) != n {
         return false;
     }
-    let mut m = mask;
-    let mut k: usize = 0;
-    while k < n {
-        if forms::name_of(types, t, k) != forms::name_of(types, c, k) {
+    let mut bits = mask;
+    for k in 0..n {
+        if types.name_of(t, k) != types.name_of(c, k) {
             return false;
         }
-        let p = forms::type_of(types, c, k);
-        let q = forms::type_of(types, t, k);
-        if masked_ok(types, m % 2, p, q) {
-            m = m / 2;
-            k += 1;
-        } else {
+        let p = types.type_of(c, k);
+        if !masked_ok(types, bits % 2 == 1, p, types.type_of(t, k)) {
             return false;
         }
+        bits /= 2;
     }
-    m == 0
+    bits == 0
 }
 
-pub fn lambda_ok(types: &[u8], ty: u16, b: u16) -> bool
+pub fn lambda_ok(types: &Types, ty: u16, b: u16) -> bool
     ensures { result ≡ rule_ok (forms types.now) empty lambda ty (b ▹ ⟨⟩) }
 {
-    if forms::form_of(types, ty) != 6 {
-        return false;
-    }
-    forms::result_of(types, ty) == b
+    types.is(ty, Form::Native) && types.result_of(ty) == b
 }
 
-pub fn if_ok(types: &[u8], ty: u16, c: u16, a: u16, b: u16) -> bool
+pub fn if_ok(types: &Types, ty: u16, c: u16, a: u16, b: u16) -> bool
     ensures { result ≡ rule_ok (forms types.now) empty ite ty (c ▹ a ▹ b ▹ ⟨⟩) }
 {
-    if forms::form_of(types, c) != 3 {
-        return false;
-    }
-    if a != ty {
-        return false;
-    }
-    b == ty
+    types.is(c, Form::Bool) && a == ty && b == ty
 }
 
-pub fn fix_ok(types: &[u8], ty: u16, c: u16) -> bool
+pub fn fix_ok(types: &Types, ty: u16, c: u16) -> bool
     ensures { result ≡ rule_ok (forms types.now) empty fix ty (c ▹ ⟨⟩) }
 {
-    if forms::form_of(types, c) != 6 {
-        return false;
-    }
-    if !part_is(types, c, 1, ty) {
-        return false;
-    }
-    if forms::form_of(types, ty) != 6 {
-        return false;
-    }
-    if !same_params(types, ty, c) {
-        return false;
-    }
-    forms::result_of(types, ty) == forms::result_of(types, c)
+    types.is(c, Form::Native)
+        && part_is(types, c, 1, ty)
+        && types.is(ty, Form::Native)
+        && same_params(types, ty, c)
+        && types.result_of(ty) == types.result_of(c)
 }
 
-pub fn cons_ok(types: &[u8], ty: u16, a: u16, b: u16) -> bool
+pub fn cons_ok(types: &Types, ty: u16, a: u16, b: u16) -> bool
     ensures { result ≡ rule_ok (forms types.now) empty cons ty (a ▹ b ▹ ⟨⟩) }
 {
-    if b != ty {
-        return false;
-    }
-    is_list_of(types, ty, a)
+    b == ty && is_list_of(types, ty, a)
 }
 
-pub fn isnil_ok(types: &[u8], ty: u16, c: u16) -> bool
+pub fn isnil_ok(types: &Types, ty: u16, c: u16) -> bool
     ensures { result ≡ rule_ok (forms types.now) empty isnil ty (c ▹ ⟨⟩) }
 {
-    if forms::form_of(types, ty) != 3 {
-        return false;
-    }
-    forms::form_of(types, c) == 4
+    types.is(ty, Form::Bool) && types.is(c, Form::List)
 }
 
-pub fn zip_ok(types: &[u8], mask: u8, ty: u16, c: u16) -> bool
+pub fn zip_ok(types: &Types, mask: u8, ty: u16, c: u16) -> bool
     ensures { result ≡ rule_ok (forms types.now) empty (zip mask) ty (c ▹ ⟨⟩) }
 {
-    let f = forms::form_of(types, c);
-    if !is_function(f) {
-        return false;
-    }
-    if forms::form_of(types, ty) != f {
-        return false;
-    }
-    let u = forms::result_of(types, ty);
-    let r = forms::result_of(types, c);
-    if !is_list_of(types, u, r) {
-        return false;
-    }
-    zipped_ok(types, mask, c, ty)
+    let form = types.form_of(c);
+    is_function(form)
+        && types.form_of(ty) == form
+        && is_list_of(types, types.result_of(ty), types.result_of(c))
+        && zipped_ok(types, mask, c, ty)
 }
 
-pub fn project_ok(types: &[u8], n: u8, ty: u16, c: u16) -> bool
+pub fn project_ok(types: &Types, n: u8, ty: u16, c: u16) -> bool
     ensures { result ≡ rule_ok (forms types.now) empty (project n) ty (c ▹ ⟨⟩) }
 {
-    if forms::form_of(types, c) != 5 {
-        return false;
-    }
-    part_is(types, c, n, ty)
+    types.is(c, Form::Tuple) && part_is(types, c, n, ty)
 }
 
-pub fn lproject_ok(types: &[u8], n: u8, ty: u16, c: u16) -> bool
+pub fn lproject_ok(types: &Types, n: u8, ty: u16, c: u16) -> bool
     ensures { result ≡ rule_ok (forms types.now) empty (lproject n) ty (c ▹ ⟨⟩) }
 {
-    if forms::form_of(types, c) != 4 {
-        return false;
-    }
-    let e = forms::result_of(types, c);
-    if forms::form_of(types, e) != 5 {
-        return false;
-    }
-    if forms::form_of(types, ty) != 4 {
-        return false;
-    }
-    let r = forms::result_of(types, ty);
-    part_is(types, e, n, r)
+    let element = types.result_of(c);
+    types.is(c, Form::List)
+        && types.is(element, Form::Tuple)
+        && types.is(ty, Form::List)
+        && part_is(types, element, n, types.result_of(ty))
 }

@@ -3,7 +3,7 @@ use Prim.Native.Nat.{ℕ, ◌+◌, ◌*◌, ◌-◌, ◌/◌, ◌<◌, ◌≤◌
 use mathlib.Core.Path.{◌≡◌, refl, ap, sym, ◌∙◌, subst}
 use mathlib.Core.Bool.{Bool, false}
 use mathlib.Core.List.{List, [], ◌∷◌, ◌++◌, map, append-nil}
-use mathlib.Core.Option.{some}
+use Rattle.std.specs.Prelude.{Some}
 use native.Mathlib.Omega.{arith}
 use lib.ListN.{length, take, drop, length-take, length-drop, length-append, length-map}
 use lib.Seq.{take_at, drop_at, drop-drop}
@@ -75,7 +75,7 @@ letter-length next call h =
 module _ (left work call frames : List ℕ) (s : Stand) (old next : ℕ) (room : Room left work frames s) (here : s.here ≡ false) (bytes : AllBytes left)
     (ecall : call ≡ take (8 * old) (drop (8 * (s.l - old)) left)) where
   -- its rows
-  module _ (form : ℕ → Form) (t : Tree) (h : Halted form next left work frames s t) (c : Call) (u : Tree) (g : own form next h.tree ≡ go (some c) u) (n : size h.tree ≡ old) where
+  module _ (form : ℕ → Form) (t : Tree) (h : Halted form next left work frames s t) (c : Call) (u : Tree) (g : own form next h.tree ≡ go (Some c) u) (n : size h.tree ≡ old) where
     site : Site false h.all.frames_around h.all.trees h.tree h.outer h.rest
     site = subst (λ (b : Bool). Site b h.all.frames_around h.all.trees h.tree h.outer h.rest) here h.site
 
@@ -126,7 +126,7 @@ module _ (left work call frames : List ℕ) (s : Stand) (old next : ℕ) (room :
     -- the whole is smaller by the call's rows but one
     pub smaller : size (top (around h.outer (u ∷ h.rest))) + old ≡ s.l + (row_count work - s.r) + 1
     smaller =
-        let e = site-goes form next left work frames s false h.all.frames_around h.all.trees h.tree h.outer h.rest (some c) u site h.all.search g in
+        let e = site-goes form next left work frames s false h.all.frames_around h.all.trees h.tree h.outer h.rest (Some c) u site h.all.search g in
         let x = send-smaller form next t c (top (around h.outer (u ∷ h.rest))) (ap (step form next) (sym h.all.whole) ∙ e) in
         omega (arith, x, whole-size form next left work frames s t h.all, many form next call h.tree c u call-bytes old call_length call_rows g)
 

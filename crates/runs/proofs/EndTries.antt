@@ -3,7 +3,7 @@ use Prim.Native.Nat.{ℕ, zero, suc, ◌+◌, ◌*◌, ◌-◌, ◌/◌, ◌<◌
 use mathlib.Core.Path.{◌≡◌, refl, ap, sym, ◌∙◌, subst}
 use mathlib.Core.Bool.{Bool, true, false, false≢true}
 use mathlib.Core.List.{List, [], ◌∷◌, ◌++◌, map}
-use mathlib.Core.Option.{none, some}
+use Rattle.std.specs.Prelude.{None, Some}
 use native.Mathlib.Omega.{arith}
 use native.Mathlib.Decide.{dec_lt}
 use borrow.Author.Tests.{lt-ltb, le-ltb}
@@ -27,8 +27,7 @@ use Rattle.search.specs.Search.{Searching, Changed}
 use Rattle.search.proofs.Tables.{rows_before_lem}
 use Rattle.search.specs.declared.Stand.{Stand}
 use Rattle.search.proofs.Frames.{call-left}
-use Rattle.reduce.specs.Rule.{Redex, quiet, told, size_if, rows_if, rule_of}
-use Rattle.reduce.specs.declared.Outcome.TheVariants.{Stays, Goes}
+use Rattle.reduce.specs.Rule.{Redex, quiet, size_if, rows_if, rule_of}
 use Rattle.reduce.proofs.Quiet.{quiet-rule, tree_is, redex-of}
 use Rattle.runs.specs.Sites.{Site, at-end, own, Halted}
 use Rattle.runs.specs.Tries.{Trying, Going, Makes, call_by}
@@ -74,7 +73,7 @@ call-told rows t e n =
 -- a call at its end is sent if the frame's flag says so
 module _ (form : ℕ → Form) (k : ℕ) where
   flag-call : (n u : ℕ) (B ts : List Tree) (v : Bool) → length B ≡ suc n → Stands form k (record { head = apply n; type = u; before = B; clear = v }) ts → is_call (node (apply n) u (kids (suc n) (B ++ ts))) ≡ true
-      → (v ≡ true → (c : Call) × (w : Tree) × (contract form k (apply n) u (kids (suc n) (B ++ ts)) ≡ go (some c) w)) × (v ≡ false → contract form k (apply n) u (kids (suc n) (B ++ ts)) ≡ stay)
+      → (v ≡ true → (c : Call) × (w : Tree) × (contract form k (apply n) u (kids (suc n) (B ++ ts)) ≡ go (Some c) w)) × (v ≡ false → contract form k (apply n) u (kids (suc n) (B ++ ts)) ≡ stay)
   unfolding is_call code first_is kids ◌∧ᵇ◌
   flag-call n u [] ts v e d q = absurd (omega arith)
   flag-call n u (b ∷ B) ts v e d q =
@@ -117,15 +116,15 @@ module _ (form : ℕ → Form) (k : ℕ) (left right frames : List ℕ) (s : Sta
     pub end-redex : (count : ℕ) → Every (legal count) t → n ≤ 2048 → Redex x
     end-redex count d few = redex-of x h.tree end-table count (in-range form k left right frames s (legal count) t h d) (omega (arith, end-length, few))
 
-    pub end_stays : call_by x ≡ false → told Stays ≡ size_if (rule_of form (tree_of (term_rows x))) → own form k h.tree ≡ stay
+    pub end_stays : call_by x ≡ false → None ≡ size_if (rule_of form (tree_of (term_rows x))) → own form k h.tree ≡ stay
     end_stays c q = told-stays form k h.tree (sym end-call ∙ c) (q ∙ ap (λ (y : Tree). size_if (rule_of form y)) (tree_is x h.tree end-table))
 
-    pub end_goes : (m : ℕ) → call_by x ≡ false → told (Goes m) ≡ size_if (rule_of form (tree_of (term_rows x))) → (u : Tree) × (own form k h.tree ≡ go none u) × (size u ≡ m)
+    pub end_goes : (m : ℕ) → call_by x ≡ false → Some m ≡ size_if (rule_of form (tree_of (term_rows x))) → (u : Tree) × (own form k h.tree ≡ go None u) × (size u ≡ m)
     end_goes m c q = told-goes form k h.tree m (sym end-call ∙ c) (q ∙ ap (λ (y : Tree). size_if (rule_of form y)) (tree_is x h.tree end-table))
 
 -- a call there
 call_shape : (form : ℕ → Form) (k : ℕ) (h : Head) (u : ℕ) (B ts : List Tree) (v : Bool) → length B ≡ arity h → Stands form k (record { head = h; type = u; before = B; clear = v }) ts → is_call (node h u (kids (arity h) (B ++ ts))) ≡ true
-    → (v ≡ true → (c : Call) × (w : Tree) × (contract form k h u (kids (arity h) (B ++ ts)) ≡ go (some c) w)) × (v ≡ false → contract form k h u (kids (arity h) (B ++ ts)) ≡ stay)
+    → (v ≡ true → (c : Call) × (w : Tree) × (contract form k h u (kids (arity h) (B ++ ts)) ≡ go (Some c) w)) × (v ≡ false → contract form k h u (kids (arity h) (B ++ ts)) ≡ stay)
 unfolding is_call code ◌∧ᵇ◌
 call_shape form k (lit (str w)) u B ts v e d q = absurd (false≢true q)
 call_shape form k (lit (file w)) u B ts v e d q = absurd (false≢true q)
@@ -149,7 +148,7 @@ call_shape form k (bind x) u B ts v e d q = absurd (false≢true q)
 
 module _ (form : ℕ → Form) (k : ℕ) (left right frames : List ℕ) (s : Stand) (t : Tree) (h : Halted form k left right frames s t) (last : s.here ≡ false) where
   flag-site : (Fs : List Frame) (ts : List Tree) (old : Tree) (outer : List Frame) (rest : List Tree) → Site false Fs ts old outer rest → Searching form k left right frames s Fs ts → is_call old ≡ true
-      → (flag_in (get_or frames (s.d - 1) 0) ≡ true → (c : Call) × (w : Tree) × (own form k old ≡ go (some c) w)) × (flag_in (get_or frames (s.d - 1) 0) ≡ false → own form k old ≡ stay)
+      → (flag_in (get_or frames (s.d - 1) 0) ≡ true → (c : Call) × (w : Tree) × (own form k old ≡ go (Some c) w)) × (flag_in (get_or frames (s.d - 1) 0) ≡ false → own form k old ≡ stay)
   unfolding own below Passed Held
   flag-site Fs ts old outer rest (at-end {F = F} e) x q =
       let y = call_shape form k F.head F.type F.before rest F.clear e x.passed.0 q in
@@ -160,15 +159,15 @@ module _ (form : ℕ → Form) (k : ℕ) (left right frames : List ℕ) (s : Sta
       held zero p = absurd p
       held (suc d) p = let z : suc d - 1 ≡ d = omega arith in rw z p.0.flag
 
-  pub call-flag : is_call h.tree ≡ true → (flag_in (get_or frames (s.d - 1) 0) ≡ true → (c : Call) × (w : Tree) × (own form k h.tree ≡ go (some c) w)) × (flag_in (get_or frames (s.d - 1) 0) ≡ false → own form k h.tree ≡ stay)
+  pub call-flag : is_call h.tree ≡ true → (flag_in (get_or frames (s.d - 1) 0) ≡ true → (c : Call) × (w : Tree) × (own form k h.tree ≡ go (Some c) w)) × (flag_in (get_or frames (s.d - 1) 0) ≡ false → own form k h.tree ≡ stay)
   call-flag q = flag-site h.all.frames_around h.all.trees h.tree h.outer h.rest (end-site form k left right frames s t h last) h.all.search q
 
 -- WHAT A RULE THAT COMES LAST MAKES
-rule-made : (form : ℕ → Form) (k : ℕ) (t u : Tree) → own form k t ≡ go none u → rule_of form t ≡ some u
+rule-made : (form : ℕ → Form) (k : ℕ) (t u : Tree) → own form k t ≡ go None u → rule_of form t ≡ Some u
 unfolding own quiet
 rule-made form k (node h ty f) u g = sym (quiet-rule form k h ty f) ∙ ap quiet g
 
-module _ (form : ℕ → Form) (k : ℕ) (left right right' frames : List ℕ) (s s' : Stand) (t : Tree) (h : Halted form k left right frames s t) (last : s.here ≡ false) (u : Tree) (g : own form k h.tree ≡ go none u) (old : ℕ) (eo : size h.tree ≡ old)
+module _ (form : ℕ → Form) (k : ℕ) (left right right' frames : List ℕ) (s s' : Stand) (t : Tree) (h : Halted form k left right frames s t) (last : s.here ≡ false) (u : Tree) (g : own form k h.tree ≡ go None u) (old : ℕ) (eo : size h.tree ≡ old)
     (x : List ℕ) (ex : x ≡ take (8 * old) (drop (8 * (s.l - old)) left)) (room : 8 * s.l ≤ length left) where
   row_is : s.l - old ≡ row_in (get_or frames (s.d - 1) 0)
   row_is = omega (arith, (end-all form k left right frames s t h last).0, (end_row_lem form k left right frames s t h last).0, eo)

@@ -173,6 +173,13 @@ module _ (m : Limits) (kept kept' work frames frames' : List ℕ) (s e : Stand) 
           whole = λ k t w. g.reached (form_of (types_in kept)) k t (stays-inside q r k t w);
         }
 
+-- what neither stays, sends nor is counted
+pub uncounted_left : (x : Tried) → (x ≡ Stays → ⊥) → ((n : ℕ) → x ≡ Sends n → ⊥) → ((old new : ℕ) → x ≡ Goes old new → ⊥) → x ≡ Uncounted
+uncounted_left Stays a b d = absurd (a refl)
+uncounted_left (Goes old new) a b d = absurd (d old new refl)
+uncounted_left (Sends n) a b d = absurd (b n refl)
+uncounted_left Uncounted a b d = refl
+
 -- what goes or sends does not stay
 pub goes-not-stays : (old new : ℕ) {A : Type 0} → Goes old new ≡ Stays → A
 goes-not-stays old new q = let z : ◌≡◌ {A = ℕ} 0 1 = ap (λ (y : Tried). elim y [ Stays ↦ 1 | Goes a b ↦ 0 | Sends a ↦ 0 | Uncounted ↦ 0 ]) q in absurd (omega arith)

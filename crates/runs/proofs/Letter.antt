@@ -2,7 +2,7 @@
 use Prim.Native.Nat.{ℕ, ◌+◌, ◌*◌, ◌-◌, ◌/◌, ◌≤◌}
 use mathlib.Core.Path.{◌≡◌, refl, ap, sym, ◌∙◌}
 use mathlib.Core.List.{List, [], ◌∷◌, map}
-use mathlib.Core.Option.{some}
+use Rattle.std.specs.Prelude.{Some}
 use native.Mathlib.Omega.{arith}
 use lib.ListN.{length, get_or, drop, length-map, length-drop}
 use lib.Seq.{take_all}
@@ -21,12 +21,12 @@ use Rattle.runs.specs.Sites.{own}
 use Rattle.runs.specs.Going.{letter_from}
 
 -- a tree whose own rule sends
-pub sends-at : (form : ℕ → Form) (k : ℕ) (t : Tree) (c : Call) (u : Tree) → own form k t ≡ go (some c) u → Sending k c t u
+pub sends-at : (form : ℕ → Form) (k : ℕ) (t : Tree) (c : Call) (u : Tree) → own form k t ≡ go (Some c) u → Sending k c t u
 unfolding own
 sends-at form k (node h ty f) c u e = root-sends form k c h ty f u e
 
 -- THE LETTER is read off the call's rows
-module _ (form : ℕ → Form) (k : ℕ) (call : List ℕ) (t : Tree) (c : Call) (u : Tree) (bytes : AllBytes call) (n : ℕ) (long : length call ≡ 8 * n) (rows : row_table call ≡ map raw (flat t)) (e : own form k t ≡ go (some c) u) where
+module _ (form : ℕ → Form) (k : ℕ) (call : List ℕ) (t : Tree) (c : Call) (u : Tree) (bytes : AllBytes call) (n : ℕ) (long : length call ≡ 8 * n) (rows : row_table call ≡ map raw (flat t)) (e : own form k t ≡ go (Some c) u) where
   pub sending : Sending k c t u
   sending = sends-at form k t c u e
 

@@ -3,7 +3,7 @@ use Prim.Native.Nat.{ℕ, ◌+◌, ◌-◌, ◌/◌, ◌<◌, ◌≤◌}
 use mathlib.Core.Path.{◌≡◌, refl, ap, sym, ◌∙◌, subst}
 use mathlib.Core.Bool.{Bool, true, false, false≢true}
 use mathlib.Core.List.{List, [], ◌∷◌, map}
-use mathlib.Core.Option.{Option, none, some}
+use Rattle.std.specs.Prelude.{Option, None, Some}
 use native.Mathlib.Omega.{arith}
 use borrow.Author.Tests.{eq-eqb}
 use lib.ListN.{length, take, replicate, length-drop}
@@ -14,8 +14,8 @@ use Rattle.meaning.specs.Steps.{Call, stay, go, step}
 use Rattle.meaning.specs.Records.{State, record_of, state_of, sound, type_count, types_in, open_count, next_number, head_sound, entry_of, row_count as row_count'}
 use Rattle.meaning.specs.Entries.{Ended, stepped, runs, lent, ran_out, run, RunSays, letter_of}
 use Rattle.meaning.specs.declared.Answer.{Answer}
-use Rattle.meaning.specs.declared.Run.{Run}
-use Rattle.meaning.specs.declared.Run.TheVariants.{Ran}
+use Rattle.meaning.specs.Answers.{Run}
+use Rattle.meaning.specs.Answers.{ended_by}
 use Rattle.meaning.proofs.Trees.Tests.{both, left}
 use Rattle.meaning.proofs.Bytes.Layouts.{AllBytes, padded-none}
 use Rattle.meaning.proofs.Bytes.Records.{Good, good-state, record-state, state-record, record-length, sound-record, Header, header}
@@ -32,7 +32,7 @@ use Rattle.runs.specs.Loops.{Ready, SentOff, Outgrown}
 use Rattle.runs.specs.Tries.{Trying, Tries, Turning, Steps, Found}
 use Rattle.runs.specs.declared.Next.{Next}
 use Rattle.runs.specs.declared.Tried.{Tried}
-use Rattle.runs.specs.declared.Tried.TheVariants.{Stays, Goes, Sends, Uncounted}
+use Rattle.runs.specs.declared.Tried.TheVariants.{Stays, Goes, Sends}
 use Rattle.runs.proofs.CallOut.{whole-size}
 use Rattle.runs.proofs.Fronting.{types_same, entries-same, next-same, head-sound-same}
 use Rattle.runs.proofs.Sites.{site-goes, is_call, here-no-call}
@@ -185,22 +185,13 @@ module _ (m : Limits) (kept₀ work₀ : List ℕ) (budget : ℕ) where
           let root = rw (same-types kept x.front x.long).1 at (c.1.at-root e) in
           (root k t h, told-by n.tried Stays form₀ (space m kept') work frames' n.s e (stop-tells kept' frames' n c) k t h)
 
-      pub stop_goes : (kept' frames' : List ℕ) (n : Next) (old new : ℕ) → InRecord m kept kept' × Found (form_of (types_in kept)) (space m kept) (space m kept') work frames frames' s n → n.tried ≡ Goes old new
-          → (k : ℕ) (t : Tree) (h : Halted form₀ k (space m kept') work frames' n.s t) → (u : Tree) × (own form₀ k h.tree ≡ go none u) × Turns n.s.here h.tree u old new
-      unfolding Tells
-      stop_goes kept' frames' n old new c e k t h = told-by n.tried (Goes old new) form₀ (space m kept') work frames' n.s e (stop-tells kept' frames' n c) k t h
-
-      pub stop-uncounted : (kept' frames' : List ℕ) (n : Next) → InRecord m kept kept' × Found (form_of (types_in kept)) (space m kept) (space m kept') work frames frames' s n → n.tried ≡ Uncounted
-          → Tries form₀ (space m kept') work frames' n.s Uncounted
-      stop-uncounted kept' frames' n c e = told-by n.tried Uncounted form₀ (space m kept') work frames' n.s e (stop-tells kept' frames' n c)
-
       pub stop-sends : (kept' frames' : List ℕ) (n : Next) (old : ℕ) → InRecord m kept kept' × Found (form_of (types_in kept)) (space m kept) (space m kept') work frames frames' s n → n.tried ≡ Sends old
-          → (k : ℕ) (t : Tree) (h : Halted form₀ k (space m kept') work frames' n.s t) → (size h.tree ≡ old) × ((c : Call) × (u : Tree) × (own form₀ k h.tree ≡ go (some c) u))
+          → (k : ℕ) (t : Tree) (h : Halted form₀ k (space m kept') work frames' n.s t) → (size h.tree ≡ old) × ((c : Call) × (u : Tree) × (own form₀ k h.tree ≡ go (Some c) u))
       unfolding Tells
       stop-sends kept' frames' n old c e k t h = told-by n.tried (Sends old) form₀ (space m kept') work frames' n.s e (stop-tells kept' frames' n c) k t h
 
     -- WHAT IS SAID where it ends
-    pub says : (r : Run) (e : Ended) (kept' work' : List ℕ) → runs m budget start ≡ e → r ≡ Ran e.answer e.made → kept' ≡ record_of m e.state → work' ≡ padded m.work_bytes e.letter → RunSays m kept₀ work₀ budget r kept' work'
+    pub says : (r : Run) (e : Ended) (kept' work' : List ℕ) → runs m budget start ≡ e → r ≡ ended_by e.answer e.made → kept' ≡ record_of m e.state → work' ≡ padded m.work_bytes e.letter → RunSays m kept₀ work₀ budget r kept' work'
     unfolding run ran_out lent
     says r e kept' work' q a k w =
         let l = both _ _ (eq-eqb (length kept₀) (record_bytes m) z.long) (eq-eqb (length work₀) m.work_bytes z.work-long) in
@@ -222,22 +213,22 @@ module _ (m : Limits) (kept₀ work₀ : List ℕ) (budget : ℕ) where
           by false e = omega (arith, (end-all form₀ start.next (space m kept) work frames s x.tree x.halted e).0)
 
       -- what making rows at once asks, and what it tells
-      pub fresh-asks : Tries form₀ (space m kept) work frames s Uncounted → (s.here ≡ true) × Trying (form_of (types_in kept)) (space m kept) work frames s × Tries (form_of (types_in kept)) (space m kept) work frames s Uncounted
-      unfolding Tells stepped
-      fresh-asks y =
+      pub fresh-asks : (y : Tried) → Tries form₀ (space m kept) work frames s y → Trying (form_of (types_in kept)) (space m kept) work frames s × Tries (form_of (types_in kept)) (space m kept) work frames s y
+      unfolding stepped
+      fresh-asks y tells =
           let f = (same-types kept x.front x.long).1 in
           let T : Trying form₀ (space m kept) work frames s = record { number = start.next; whole = x.tree; halted = x.halted; count = length start.types; in-range = x.good.legal_rows } in
-          ((y start.next x.tree x.halted).0, subst (λ (g : ℕ → Form). Trying g (space m kept) work frames s) (sym f) T, subst (λ (g : ℕ → Form). Tries g (space m kept) work frames s Uncounted) (sym f) y)
+          (subst (λ (g : ℕ → Form). Trying g (space m kept) work frames s) (sym f) T, subst (λ (g : ℕ → Form). Tries g (space m kept) work frames s y) (sym f) tells)
 
-      pub fresh-goes : (old new : ℕ) → ((left frames : List ℕ) → Tries (form_of (types_in kept)) left work frames s (Goes old new)) → (u : Tree) × (own form₀ start.next x.halted.tree ≡ go none u) × Turns s.here x.halted.tree u old new
+      pub fresh-goes : (old new : ℕ) → Tries (form_of (types_in kept)) (space m kept) work frames s (Goes old new) → (u : Tree) × (own form₀ start.next x.halted.tree ≡ go None u) × Turns s.here x.halted.tree u old new
       unfolding Tells
       fresh-goes old new y =
           let f = (same-types kept x.front x.long).1 in
-          subst (λ (g : ℕ → Form). Tries g (space m kept) work frames s (Goes old new)) f (y (space m kept) frames) start.next x.tree x.halted
+          subst (λ (g : ℕ → Form). Tries g (space m kept) work frames s (Goes old new)) f y start.next x.tree x.halted
 
       -- with an answer of the table, or at the budget
       pub halts-says : (a : Answer) (r : Run) (kept' work' : List ℕ) → length work ≡ length work₀ → runs m budget start ≡ record { answer = a; made = made; state = stepped start x.tree; letter = [] }
-          → (r ≡ Ran a made) × PutBack m kept kept' work s × (work' ≡ replicate (length work) 0) → RunSays m kept₀ work₀ budget r kept' work'
+          → (r ≡ ended_by a made) × PutBack m kept kept' work s × (work' ≡ replicate (length work) 0) → RunSays m kept₀ work₀ budget r kept' work'
       halts-says a r kept' work' lw q (p, b, w) =
           says r _ kept' work' q p (b form₀ start.next frames start x.tree (same-fronts kept x.front x.long) x.halted.all) (w ∙ ap (λ (i : ℕ). replicate i 0) (lw ∙ z.work-long) ∙ sym (padded-none m.work_bytes))
 
@@ -266,7 +257,7 @@ module _ (m : Limits) (kept₀ work₀ : List ℕ) (budget : ℕ) where
           site-size form₀ start.next s.here h.all.frames_around h.all.trees h.tree u h.outer h.rest h.site h.all.search.passed ∙ ap (λ (t : Tree). size t + size u) h.all.whole
 
       -- a rule that goes, as the code carries it out
-      pub stopped-going : (old new : ℕ) → (u : Tree) × (own form₀ start.next x.halted.tree ≡ go none u) × Turns s.here x.halted.tree u old new → Turning (form_of (types_in kept)) (space m kept) work frames s old new
+      pub stopped-going : (old new : ℕ) → (u : Tree) × (own form₀ start.next x.halted.tree ≡ go None u) × Turns s.here x.halted.tree u old new → Turning (form_of (types_in kept)) (space m kept) work frames s old new
       unfolding stepped
       stopped-going old new (u, g, b) =
           let f = (same-types kept x.front x.long).1 in
@@ -274,7 +265,7 @@ module _ (m : Limits) (kept₀ work₀ : List ℕ) (budget : ℕ) where
           rw f y
 
       -- A STEP ON
-      pub steps_on : (kept' work' : List ℕ) (e : Stand) (old new : ℕ) (u : Tree) → own form₀ start.next x.halted.tree ≡ go none u → Turns s.here x.halted.tree u old new
+      pub steps_on : (kept' work' : List ℕ) (e : Stand) (old new : ℕ) (u : Tree) → own form₀ start.next x.halted.tree ≡ go None u → Turns s.here x.halted.tree u old new
           → s.l + (row_count work - s.r) + new ≤ m.rows + old → (made ≡ budget → ⊥)
           → InRecord m kept kept' × Steps (form_of (types_in kept)) (space m kept) (space m kept') work work' frames s e old new → Under m kept₀ budget kept' work' frames e (made + 1)
       steps_on kept' work' e old new u g b fits more (r, c) =
@@ -284,18 +275,18 @@ module _ (m : Limits) (kept₀ work₀ : List ℕ) (budget : ℕ) where
           record {
             tree = top (around x.halted.outer (u ∷ x.halted.rest));
             whole = d.reached start.next x.tree x.halted u g b;
-            way = step-on m budget made start x.tree x.way _ (whole-goes none u g) n more;
-            good = step-good m budget made start x.tree x.way _ (whole-goes none u g) z.board n x.good;
+            way = step-on m budget made start x.tree x.way _ (whole-goes None u g) n more;
+            good = step-good m budget made start x.tree x.way _ (whole-goes None u g) z.board n x.good;
             front = r.front ∙ x.front;
             long = r.long ∙ x.long;
             room = d.room;
           }
 
       -- A CALL
-      module _ (d : Call) (u : Tree) (g : own form₀ start.next x.halted.tree ≡ go (some d) u) where
+      module _ (d : Call) (u : Tree) (g : own form₀ start.next x.halted.tree ≡ go (Some d) u) where
         pub call-smaller : size (top (around x.halted.outer (u ∷ x.halted.rest))) ≤ m.rows
         unfolding stepped
-        call-smaller = omega (arith, send-smaller form₀ start.next x.tree d _ (whole-goes (some d) u g), x.good.rows_many)
+        call-smaller = omega (arith, send-smaller form₀ start.next x.tree d _ (whole-goes (Some d) u g), x.good.rows_many)
 
         is-call : is_call x.halted.tree ≡ true
         unfolding is_call code first_is ◌∧ᵇ◌
@@ -314,8 +305,8 @@ module _ (m : Limits) (kept₀ work₀ : List ℕ) (budget : ℕ) where
         calling old next e a = rw e (record { form = form₀; whole = x.tree; halted = x.halted; call = d; made = u; goes = g; rows = a })
 
         pub sent-says : (old next : ℕ) (r : Run) (kept' work' : List ℕ) → next ≡ start.next → size x.halted.tree ≡ old → length work ≡ length work₀ → length start.calls < m.calls → start.next ≤ m.last_number → (made ≡ budget → ⊥)
-            → SentOff m kept kept' work work' frames s old next → r ≡ Ran (Sent next) (made + 1) → RunSays m kept₀ work₀ budget r kept' work'
+            → SentOff m kept kept' work work' frames s old next → r ≡ ended_by (Sent next) (made + 1) → RunSays m kept₀ work₀ budget r kept' work'
         sent-says old next r kept' work' e a lw held last more off q =
             let o : SentOff m kept kept' work work' frames s old start.next = subst (SentOff m kept kept' work work' frames s old) e off in
             let (k, w) = o form₀ start x.tree x.halted d u (same-fronts kept x.front x.long) refl (same-calls kept x.front x.long).1 g a in
-            says r _ kept' work' (ends-sent m budget made start x.tree x.way d _ (whole-goes (some d) u g) held last call-smaller more) (q ∙ ap (λ (i : ℕ). Ran (Sent i) (made + 1)) e) k (w ∙ ap (λ (i : ℕ). padded i (letter_of start.next d)) (lw ∙ z.work-long))
+            says r _ kept' work' (ends-sent m budget made start x.tree x.way d _ (whole-goes (Some d) u g) held last call-smaller more) (q ∙ ap (λ (i : ℕ). ended_by (Sent i) (made + 1)) e) k (w ∙ ap (λ (i : ℕ). padded i (letter_of start.next d)) (lw ∙ z.work-long))

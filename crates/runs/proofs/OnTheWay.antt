@@ -3,7 +3,7 @@ use Prim.Native.Nat.{ℕ, zero, suc, ◌+◌, ◌-◌, ◌<◌, ◌≤◌}
 use mathlib.Core.Path.{◌≡◌, refl, ap, sym, ◌∙◌}
 use mathlib.Core.Bool.{Bool, true, false}
 use mathlib.Core.List.{[]}
-use mathlib.Core.Option.{Option, none, some}
+use Rattle.std.specs.Prelude.{Option, None, Some}
 use native.Mathlib.Omega.{arith}
 use lib.ListN.{length}
 use Rattle.meaning.specs.Bytes.{Limits}
@@ -45,11 +45,11 @@ module _ (m : Limits) (s : State) where
   unfolding runs ended
   spent c u e = rw e refl
 
-  one_more : (b : ℕ) (u : State) → try m s ≡ pass none u → runs m (suc b) s ≡ again (runs m b u)
+  one_more : (b : ℕ) (u : State) → try m s ≡ pass None u → runs m (suc b) s ≡ again (runs m b u)
   unfolding runs onward
   one_more b u e = rw e refl
 
-  sends : (b : ℕ) (c : Call) (u : State) → try m s ≡ pass (some c) u → runs m (suc b) s ≡ record { answer = Sent s.next; made = 1; state = u; letter = letter_of s.next c }
+  sends : (b : ℕ) (c : Call) (u : State) → try m s ≡ pass (Some c) u → runs m (suc b) s ≡ record { answer = Sent s.next; made = 1; state = u; letter = letter_of s.next c }
   unfolding runs onward
   sends b c u e = rw e refl
 
@@ -71,60 +71,60 @@ module _ (m : Limits) (budget made : ℕ) (s : State) (t : Tree) (w : OnTheWay m
   ends-waiting v e = at-end Waiting (halts-of m here Waiting (v, e))
 
   -- a step that sends nothing
-  module _ (u : Tree) (e : step (form_of s.types) s.next t ≡ go none u) where
+  module _ (u : Tree) (e : step (form_of s.types) s.next t ≡ go None u) where
     pub ends-room : m.rows < size u → runs m budget s ≡ record { answer = Room; made = made; state = here; letter = [] }
     unfolding stepped Halts MaySend
-    ends-room h = at-end Room (halts-of m here Room (steps-no-value (form_of s.types) s.next t none u e, (none, u, e, tt, h)))
+    ends-room h = at-end Room (halts-of m here Room (steps-no-value (form_of s.types) s.next t None u e, (None, u, e, tt, h)))
 
-    passes : size u ≤ m.rows → PassesTo m here none (stepped s u)
+    passes : size u ≤ m.rows → PassesTo m here None (stepped s u)
     unfolding stepped MaySend behind_step
-    passes h = record { open-term = steps-no-value (form_of s.types) s.next t none u e; tree = u; steps = e; may = tt; room = h; state = refl }
+    passes h = record { open-term = steps-no-value (form_of s.types) s.next t None u e; tree = u; steps = e; may = tt; room = h; state = refl }
 
     pub ends-budget : size u ≤ m.rows → made ≡ budget → runs m budget s ≡ record { answer = Budget; made = made; state = here; letter = [] }
     unfolding later
     ends-budget h q =
         let z : made + 0 ≡ made = omega arith in
         let b : budget - made ≡ 0 = omega arith in
-        w.goes_on ∙ rw (b, spent m here none (stepped s u) (passes_of m here none (stepped s u) (passes h)), z) refl
+        w.goes_on ∙ rw (b, spent m here None (stepped s u) (passes_of m here None (stepped s u) (passes h)), z) refl
 
     pub step-on : size u ≤ m.rows → (made ≡ budget → ⊥) → OnTheWay m budget (made + 1) s u
     unfolding later again
     step-on h q =
         let b : budget - made ≡ suc (budget - (made + 1)) = omega (arith, w.few, q) in
-        let x = one_more m here (budget - (made + 1)) (stepped s u) (passes_of m here none (stepped s u) (passes h)) in
+        let x = one_more m here (budget - (made + 1)) (stepped s u) (passes_of m here None (stepped s u) (passes h)) in
         let z : made + suc (runs m (budget - (made + 1)) (stepped s u)).made ≡ made + 1 + (runs m (budget - (made + 1)) (stepped s u)).made = omega arith in
         record { few = omega (arith, w.few, q); goes_on = w.goes_on ∙ rw (b, x, z) refl }
 
     pub step-good : Board m → size u ≤ m.rows → Good m here → Good m (stepped s u)
-    step-good b h g = step_stays m b here (stepped s u) none (passes h) g
+    step-good b h g = step_stays m b here (stepped s u) None (passes h) g
 
   -- a call
-  module _ (c : Call) (u : Tree) (e : step (form_of s.types) s.next t ≡ go (some c) u) where
+  module _ (c : Call) (u : Tree) (e : step (form_of s.types) s.next t ≡ go (Some c) u) where
     pub ends_held : m.calls ≤ length s.calls → runs m budget s ≡ record { answer = Held; made = made; state = here; letter = [] }
     unfolding stepped Halts
-    ends_held h = at-end Held (halts-of m here Held (steps-no-value (form_of s.types) s.next t (some c) u e, (c, u, e, h)))
+    ends_held h = at-end Held (halts-of m here Held (steps-no-value (form_of s.types) s.next t (Some c) u e, (c, u, e, h)))
 
     pub ends-numbers : length s.calls < m.calls → m.last_number < s.next → runs m budget s ≡ record { answer = Numbers; made = made; state = here; letter = [] }
     unfolding stepped Halts
-    ends-numbers h n = at-end Numbers (halts-of m here Numbers (steps-no-value (form_of s.types) s.next t (some c) u e, (c, u, e, h, n)))
+    ends-numbers h n = at-end Numbers (halts-of m here Numbers (steps-no-value (form_of s.types) s.next t (Some c) u e, (c, u, e, h, n)))
 
-    passes-call : length s.calls < m.calls → s.next ≤ m.last_number → size u ≤ m.rows → PassesTo m here (some c) (sent s c u)
+    passes-call : length s.calls < m.calls → s.next ≤ m.last_number → size u ≤ m.rows → PassesTo m here (Some c) (sent s c u)
     unfolding stepped MaySend behind_step sent
-    passes-call h n r = record { open-term = steps-no-value (form_of s.types) s.next t (some c) u e; tree = u; steps = e; may = (h, n); room = r; state = refl }
+    passes-call h n r = record { open-term = steps-no-value (form_of s.types) s.next t (Some c) u e; tree = u; steps = e; may = (h, n); room = r; state = refl }
 
     pub ends-call-budget : length s.calls < m.calls → s.next ≤ m.last_number → size u ≤ m.rows → made ≡ budget → runs m budget s ≡ record { answer = Budget; made = made; state = here; letter = [] }
     unfolding later
     ends-call-budget h n r q =
         let z : made + 0 ≡ made = omega arith in
         let b : budget - made ≡ 0 = omega arith in
-        w.goes_on ∙ rw (b, spent m here (some c) (sent s c u) (passes_of m here (some c) (sent s c u) (passes-call h n r)), z) refl
+        w.goes_on ∙ rw (b, spent m here (Some c) (sent s c u) (passes_of m here (Some c) (sent s c u) (passes-call h n r)), z) refl
 
     pub ends-sent : length s.calls < m.calls → s.next ≤ m.last_number → size u ≤ m.rows → (made ≡ budget → ⊥)
         → runs m budget s ≡ record { answer = Sent s.next; made = made + 1; state = sent s c u; letter = letter_of s.next c }
     unfolding later stepped
     ends-sent h n r q =
         let b : budget - made ≡ suc (budget - (made + 1)) = omega (arith, w.few, q) in
-        w.goes_on ∙ rw (b, sends m here (budget - (made + 1)) c (sent s c u) (passes_of m here (some c) (sent s c u) (passes-call h n r))) refl
+        w.goes_on ∙ rw (b, sends m here (budget - (made + 1)) c (sent s c u) (passes_of m here (Some c) (sent s c u) (passes-call h n r))) refl
 
 -- it begins
 pub begins : (m : Limits) (budget : ℕ) (s : State) → OnTheWay m budget 0 s s.tree

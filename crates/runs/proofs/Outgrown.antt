@@ -9,7 +9,7 @@ use lib.ListN.{length, replicate, length-replicate}
 use Rattle.meaning.specs.Bytes.{Limits, record_bytes, arm}
 use Rattle.meaning.specs.Records.{state_of, sound, row_count}
 use Rattle.meaning.specs.Entries.{runs, lent, RunOut, ran_out, run, RunSays}
-use Rattle.meaning.specs.declared.Run.{Run}
+use Rattle.meaning.specs.Answers.{Run}
 use Rattle.meaning.proofs.Trees.Tests.{both}
 use Rattle.meaning.proofs.Bytes.Layouts.{AllBytes}
 use Rattle.meaning.proofs.Bytes.Records.{Small, header}

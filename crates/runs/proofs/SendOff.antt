@@ -11,7 +11,7 @@ use Rattle.meaning.specs.Records.{Entry, record_of, state_of, open_count, entrie
 use Rattle.meaning.specs.Entries.{sent, stepped, letter_of}
 use Rattle.meaning.proofs.Bytes.Layouts.{AllBytes, length-reads}
 use Rattle.open.specs.Open.{opened, Lists}
-use Rattle.open.specs.declared.OpenList.{OpenList}
+use Rattle.open.specs.declared.entries.OpenList.{OpenList}
 use Rattle.keep.specs.Keep.{recalled, Roomy, CallsRenewed}
 use Rattle.search.specs.Frames.{around}
 use Rattle.search.specs.Kept.{row_count}

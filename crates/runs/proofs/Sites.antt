@@ -3,7 +3,7 @@ use Prim.Native.Nat.{ℕ, zero, suc, ◌+◌, ◌*◌, ◌-◌, ◌<◌, ◌≤�
 use mathlib.Core.Path.{◌≡◌, refl, ap, sym, ◌∙◌}
 use mathlib.Core.Bool.{Bool, true, false, cond, not, false≢true}
 use mathlib.Core.List.{List, ◌∷◌, map}
-use mathlib.Core.Option.{Option, none}
+use Rattle.std.specs.Prelude.{Option, None}
 use native.Mathlib.Omega.{arith}
 use lib.Dec.{eqb}
 use borrow.Author.Tests.{eqb-true}
@@ -178,14 +178,14 @@ zip-waits (lproject i) f e = absurd (false≢true e)
 zip-waits (bind x) f e = absurd (false≢true e)
 
 module _ (form : ℕ → Form) (k : ℕ) where
-  zip-goes : (h : Head) (u : ℕ) (f : Forest (arity h)) → zips_lists h f ≡ true → (v : Tree) × (contract form k h u f ≡ go none v)
+  zip-goes : (h : Head) (u : ℕ) (f : Forest (arity h)) → zips_lists h f ≡ true → (v : Tree) × (contract form k h u f ≡ go None v)
   unfolding zips_lists zips lists_below contract apply_step zip_step first_is code is ◌∧ᵇ◌
   zip-goes (apply n) u (more c args) e =
       let q : code (head_of c) ≡ 15 = eqb-true (code (head_of c)) 15 (left (eqb (code (head_of c)) 15) (ready (n_of (head_of c)) args) e) in
       let v : ready (n_of (head_of c)) args ≡ true = right (eqb (code (head_of c)) 15) (ready (n_of (head_of c)) args) e in
       (cond (any_nil (n_of (head_of c)) args) (node nil u end) (zip_cons form u (n_of (head_of c)) c args), rw (q, v) (either (any_nil (n_of (head_of c)) args) (node nil u end) (zip_cons form u (n_of (head_of c)) c args)))
     where
-      either : (b : Bool) (x y : Tree) → cond b (go none x) (go none y) ≡ go none (cond b x y)
+      either : (b : Bool) (x y : Tree) → cond b (go None x) (go None y) ≡ go None (cond b x y)
       either true x y = refl
       either false x y = refl
   zip-goes (lit (str w)) u f e = absurd (false≢true e)
@@ -207,6 +207,6 @@ module _ (form : ℕ → Form) (k : ℕ) where
   zip-goes (lproject i) u f e = absurd (false≢true e)
   zip-goes (bind x) u f e = absurd (false≢true e)
 
-  pub here-zips : (Fs : List Frame) (ts : List Tree) (old : Tree) (outer : List Frame) (rest : List Tree) → Site true Fs ts old outer rest → tree_zips old ≡ true → (v : Tree) × (own form k old ≡ go none v)
+  pub here-zips : (Fs : List Frame) (ts : List Tree) (old : Tree) (outer : List Frame) (rest : List Tree) → Site true Fs ts old outer rest → tree_zips old ≡ true → (v : Tree) × (own form k old ≡ go None v)
   unfolding own tree_zips
   here-zips Fs ts old outer rest (at_row {h = h} {u = u} {f = f} o w) e = zip-goes h u f (w (zip-waits h f e))

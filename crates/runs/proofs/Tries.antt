@@ -3,7 +3,7 @@ use Prim.Native.Nat.{ℕ, ◌+◌, ◌*◌, ◌-◌, ◌/◌, ◌<◌, ◌≤◌
 use mathlib.Core.Path.{◌≡◌, refl, ap, sym, ◌∙◌, subst}
 use mathlib.Core.Bool.{Bool, true, false}
 use mathlib.Core.List.{List, [], ◌∷◌, ◌++◌, map, append_assoc}
-use mathlib.Core.Option.{Option, none, some}
+use Rattle.std.specs.Prelude.{Option, None, Some}
 use native.Mathlib.Omega.{arith}
 use lib.ListN.{length, get_or, take, drop, length-take, length-drop, length-map, take-append-drop}
 use Rattle.layout.specs.Rows.{row_table, type_table, term_rows}
@@ -27,12 +27,11 @@ use Rattle.search.specs.Search.{Changed}
 use Rattle.search.proofs.Tables.{map-append, rows_before_lem, pasted_length, pasted-before, pasted-there, table_same, lent_length, lent_rows, lent-tree}
 use Rattle.search.proofs.Changes.{frame-rows}
 use Rattle.search.proofs.Ends.{all-rows}
-use Rattle.reduce.specs.Rule.{Redex, Front, told, size_if, rows_if, rule_of}
-use Rattle.reduce.specs.declared.Outcome.TheVariants.{Stays, Goes}
+use Rattle.reduce.specs.Rule.{Redex, Front, size_if, rows_if, rule_of}
 use Rattle.reduce.specs.Behind.{Begins, StandsBehind}
 use Rattle.reduce.specs.Once.{Goes as Goes', MadeAtOnce}
 use Rattle.reduce.specs.Lists.{tree_zips}
-use Rattle.put.specs.declared.Pass.TheVariants.{Made}
+use Rattle.put.specs.declared.Made.{Made}
 use Rattle.reduce.proofs.Quiet.{rule-is, tree_is, redex-of}
 use Rattle.runs.specs.Sites.{Site, at_row, at-end, own, Turns, Halted, Tells}
 use Rattle.runs.specs.declared.Tried.{Tried}
@@ -51,21 +50,21 @@ own-rule : (form : ℕ → Form) (k : ℕ) (t : Tree) → is_call t ≡ false �
 unfolding own is_call
 own-rule form k (node h u f) e = rule-is form k h u f e
 
-pub told-stays : (form : ℕ → Form) (k : ℕ) (t : Tree) → is_call t ≡ false → told Stays ≡ size_if (rule_of form t) → own form k t ≡ stay
+pub told-stays : (form : ℕ → Form) (k : ℕ) (t : Tree) → is_call t ≡ false → None ≡ size_if (rule_of form t) → own form k t ≡ stay
 unfolding size_if become
 told-stays form k t e q = own-rule form k t e ∙ ap become (none_made (rule_of form t) q)
   where
-    none_made : (o : Option Tree) → none ≡ size_if o → o ≡ none
-    none_made none q = refl
-    none_made (some u) q = let z : ◌≡◌ {A = ℕ} 0 1 = ap (λ (o : Option ℕ). elim o [ none ↦ 0 | some i ↦ 1 ]) (q ∙ refl) in absurd (omega arith)
+    none_made : (o : Option Tree) → None ≡ size_if o → o ≡ None
+    none_made None q = refl
+    none_made (Some u) q = let z : ◌≡◌ {A = ℕ} 0 1 = ap (λ (o : Option ℕ). elim o [ None ↦ 0 | Some i ↦ 1 ]) (q ∙ refl) in absurd (omega arith)
 
-pub told-goes : (form : ℕ → Form) (k : ℕ) (t : Tree) (n : ℕ) → is_call t ≡ false → told (Goes n) ≡ size_if (rule_of form t) → (u : Tree) × (own form k t ≡ go none u) × (size u ≡ n)
+pub told-goes : (form : ℕ → Form) (k : ℕ) (t : Tree) (n : ℕ) → is_call t ≡ false → Some n ≡ size_if (rule_of form t) → (u : Tree) × (own form k t ≡ go None u) × (size u ≡ n)
 unfolding size_if become
 told-goes form k t n e q = some-made (rule_of form t) refl q
   where
-    some-made : (o : Option Tree) → rule_of form t ≡ o → some n ≡ size_if o → (u : Tree) × (own form k t ≡ go none u) × (size u ≡ n)
-    some-made none p q = let z : ◌≡◌ {A = ℕ} 1 0 = ap (λ (o : Option ℕ). elim o [ none ↦ 0 | some i ↦ 1 ]) q in absurd (omega arith)
-    some-made (some u) p q = (u, own-rule form k t e ∙ ap become p, sym (ap (λ (o : Option ℕ). elim o [ none ↦ n | some i ↦ i ]) q))
+    some-made : (o : Option Tree) → rule_of form t ≡ o → Some n ≡ size_if o → (u : Tree) × (own form k t ≡ go None u) × (size u ≡ n)
+    some-made None p q = let z : ◌≡◌ {A = ℕ} 1 0 = ap (λ (o : Option ℕ). elim o [ None ↦ 0 | Some i ↦ 1 ]) q in absurd (omega arith)
+    some-made (Some u) p q = (u, own-rule form k t e ∙ ap become p, sym (ap (λ (o : Option ℕ). elim o [ None ↦ n | Some i ↦ i ]) q))
 
 -- all rows of a tree give way to all of the other
 pub turns-anew : (here : Bool) (t u : Tree) (old new : ℕ) → size t ≡ old → size u ≡ new → Turns here t u old new
@@ -73,7 +72,7 @@ turns-anew here t u old new a b =
     record { within = omega (arith, a); sizes = omega (arith, a, b); anew = λ h. a; stands = λ z. absurd (omega (arith, b, z, size-some u)) }
 
 -- the end of a tree stands already
-pub told-stands : (form : ℕ → Form) (k : ℕ) (here : Bool) (t : Tree) (n : ℕ) → is_call t ≡ false → here ≡ true → StandsBehind form t n → (u : Tree) × (own form k t ≡ go none u) × Turns here t u n 0
+pub told-stands : (form : ℕ → Form) (k : ℕ) (here : Bool) (t : Tree) (n : ℕ) → is_call t ≡ false → here ≡ true → StandsBehind form t n → (u : Tree) × (own form k t ≡ go None u) × Turns here t u n 0
 unfolding become
 told-stands form k here t n e b x =
     let u = x.made in
@@ -103,13 +102,13 @@ module _ (form : ℕ → Form) (k : ℕ) (left right frames : List ℕ) (s : Sta
       (subst (λ (l : List Row). AllRows P l) (sym (whole-flat a.frames_around a.trees a.search ∙ ap flat a.whole)) (every-rows P t d))
 
 -- WHAT A RULE MAKES
-made-rule : (form : ℕ → Form) (k : ℕ) (t u : Tree) → is_call t ≡ false → own form k t ≡ go none u → rule_of form t ≡ some u
+made-rule : (form : ℕ → Form) (k : ℕ) (t u : Tree) → is_call t ≡ false → own form k t ≡ go None u → rule_of form t ≡ Some u
 unfolding become
 made-rule form k t u e g = by (rule_of form t) (sym (own-rule form k t e) ∙ g)
   where
-    by : (o : Option Tree) → become o ≡ go none u → o ≡ some u
-    by none q = let z : ◌≡◌ {A = ℕ} 0 1 = ap (λ (x : Out). elim x [ stay ↦ 0 | go c v ↦ 1 ]) q in absurd (omega arith)
-    by (some v) q = ap some (ap (λ (x : Out). elim x [ stay ↦ u | go c w ↦ w ]) q)
+    by : (o : Option Tree) → become o ≡ go None u → o ≡ Some u
+    by None q = let z : ◌≡◌ {A = ℕ} 0 1 = ap (λ (x : Out). elim x [ stay ↦ 0 | go c v ↦ 1 ]) q in absurd (omega arith)
+    by (Some v) q = ap Some (ap (λ (x : Out). elim x [ stay ↦ u | go c w ↦ w ]) q)
 
 -- AT THE SEARCH
 module _ (form : ℕ → Form) (k : ℕ) (left right frames : List ℕ) (s : Stand) (t : Tree) (h : Halted form k left right frames s t) (here : s.here ≡ true) where
@@ -176,25 +175,25 @@ module _ (form : ℕ → Form) (k : ℕ) (left right frames : List ℕ) (s : Sta
         }
 
     -- a rule that goes there, and the rows that it makes
-    pub here-uncounted : Goes' form (row_table x) → (s.here ≡ true) × ((u : Tree) × (own form k h.tree ≡ go none u))
+    pub here-uncounted : Goes' form (row_table x) → (s.here ≡ true) × ((u : Tree) × (own form k h.tree ≡ go None u))
     unfolding become
     here-uncounted (u, e) = (here, (u, own-rule form k h.tree (here-no-call _ _ _ _ _ here-site) ∙ ap (λ (y : Tree). become (rule_of form y)) (sym here-first) ∙ ap become e))
 
-    pub here-zip : tree_zips (tree_of (term_rows x)) ≡ true → (s.here ≡ true) × ((u : Tree) × (own form k h.tree ≡ go none u))
+    pub here-zip : tree_zips (tree_of (term_rows x)) ≡ true → (s.here ≡ true) × ((u : Tree) × (own form k h.tree ≡ go None u))
     here-zip e = (here, here-zips form k _ _ _ _ _ here-site (ap tree_zips (sym here-first) ∙ e))
 
-    pub here-once : (to : List (List ℕ)) (old new : ℕ) → MadeAtOnce form (row_table x) to (Made old new) → (u : Tree) × (own form k h.tree ≡ go none u) × Turns s.here h.tree u old new
-    unfolding become MadeAtOnce here-uncounted
-    here-once to old new (a, (u, e, b, c)) = (u, (here-uncounted (u, e)).1.1, turns-anew s.here h.tree u old new (sym (a ∙ ap size here-first)) (sym b))
+    pub here-once : (to : List (List ℕ)) (m : Made) → MadeAtOnce form (row_table x) to m → (u : Tree) × (own form k h.tree ≡ go None u) × Turns s.here h.tree u m.end m.rows
+    unfolding become here-uncounted
+    here-once to m c = (c.made, (here-uncounted (c.made, c.rule)).1.1, turns-anew s.here h.tree c.made m.end m.rows (sym (c.whole ∙ ap size here-first)) (sym c.count))
 
-    pub here-fresh : (to : List (List ℕ)) (old new : ℕ) → MadeAtOnce form (row_table x) to (Made old new) → (u : Tree) → own form k h.tree ≡ go none u → take new to ≡ map raw (flat u)
-    unfolding MadeAtOnce
-    here-fresh to old new (a, (v, e, b, c)) u g =
-        let r : some v ≡ some u = sym e ∙ ap (rule_of form) here-first ∙ made-rule form k h.tree u (here-no-call _ _ _ _ _ here-site) g in
-        let w : v ≡ u = ap (λ (o : Option Tree). elim o [ none ↦ v | some y ↦ y ]) r in
-        c ∙ ap (λ (y : Tree). map raw (flat y)) w
+    pub here-fresh : (to : List (List ℕ)) (m : Made) → MadeAtOnce form (row_table x) to m → (u : Tree) → own form k h.tree ≡ go None u → take m.rows to ≡ map raw (flat u)
+    here-fresh to m c u g =
+        let v = c.made in
+        let r : Some v ≡ Some u = sym c.rule ∙ ap (rule_of form) here-first ∙ made-rule form k h.tree u (here-no-call _ _ _ _ _ here-site) g in
+        let w : v ≡ u = ap (λ (o : Option Tree). elim o [ None ↦ v | Some y ↦ y ]) r in
+        c.front ∙ ap (λ (y : Tree). map raw (flat y)) w
 
-    pub here-stands : (n : ℕ) → StandsBehind form (tree_of (term_rows x)) n → (u : Tree) × (own form k h.tree ≡ go none u) × Turns s.here h.tree u n 0
+    pub here-stands : (n : ℕ) → StandsBehind form (tree_of (term_rows x)) n → (u : Tree) × (own form k h.tree ≡ go None u) × Turns s.here h.tree u n 0
     here-stands n y = told-stands form k s.here h.tree n (here-no-call _ _ _ _ _ here-site) here (subst (λ (t : Tree). StandsBehind form t n) here-first y)
 
   module _ (n : ℕ) (x : List ℕ) (en : n ≡ size h.tree) (ex : x ≡ take (8 * n) (drop (8 * s.r) right)) (ends : s.r ≤ row_count right) where
@@ -209,18 +208,18 @@ module _ (form : ℕ → Form) (k : ℕ) (left right frames : List ℕ) (s : Sta
     pub here-redex : (count : ℕ) → Every (legal count) t → n ≤ 2048 → Redex x
     here-redex count d few = redex-of x h.tree here-table count (in-range form k left right frames s (legal count) t h d) (omega (arith, here-length, few))
 
-    pub here-stays : told Stays ≡ size_if (rule_of form (tree_of (term_rows x))) → own form k h.tree ≡ stay
+    pub here-stays : None ≡ size_if (rule_of form (tree_of (term_rows x))) → own form k h.tree ≡ stay
     here-stays q = told-stays form k h.tree (here-no-call _ _ _ _ _ here-site) (q ∙ ap (λ (y : Tree). size_if (rule_of form y)) (tree_is x h.tree here-table))
 
-    pub here-goes : (m : ℕ) → told (Goes m) ≡ size_if (rule_of form (tree_of (term_rows x))) → (u : Tree) × (own form k h.tree ≡ go none u) × (size u ≡ m)
+    pub here-goes : (m : ℕ) → Some m ≡ size_if (rule_of form (tree_of (term_rows x))) → (u : Tree) × (own form k h.tree ≡ go None u) × (size u ≡ m)
     here-goes m q = told-goes form k h.tree m (here-no-call _ _ _ _ _ here-site) (q ∙ ap (λ (y : Tree). size_if (rule_of form y)) (tree_is x h.tree here-table))
 
-    pub here-turns : (m : ℕ) → told (Goes m) ≡ size_if (rule_of form (tree_of (term_rows x))) → (u : Tree) × (own form k h.tree ≡ go none u) × Turns s.here h.tree u n m
+    pub here-turns : (m : ℕ) → Some m ≡ size_if (rule_of form (tree_of (term_rows x))) → (u : Tree) × (own form k h.tree ≡ go None u) × Turns s.here h.tree u n m
     here-turns m q = let (u, g, b) = here-goes m q in (u, g, turns-anew s.here h.tree u n m (sym en) b)
 
 -- at the search
-module _ (form : ℕ → Form) (k : ℕ) (left left' right right' frames : List ℕ) (s s' : Stand) (t : Tree) (h : Halted form k left right frames s t) (here : s.here ≡ true) (u : Tree) (g : own form k h.tree ≡ go none u) where
-  here-rule : rule_of form h.tree ≡ some u
+module _ (form : ℕ → Form) (k : ℕ) (left left' right right' frames : List ℕ) (s s' : Stand) (t : Tree) (h : Halted form k left right frames s t) (here : s.here ≡ true) (u : Tree) (g : own form k h.tree ≡ go None u) where
+  here-rule : rule_of form h.tree ≡ Some u
   here-rule = made-rule form k h.tree u (here-no-call _ _ _ _ _ (here-site form k left right frames s t h here)) g
 
   pub here-made-rows : (x : List ℕ) → row_table x ≡ map raw (flat h.tree) → rows_if (rule_of form (tree_of (term_rows x))) ≡ map raw (flat u)
@@ -345,9 +344,8 @@ fresh-there form left right frames fresh s old new writes g stands =
     let l = sym (length-take new (row_table fresh)) ∙ ap length e ∙ length-map (flat g.made) raw ∙ length-flat g.made in
     omega (arith, l, g.turns.sizes, g.turns.anew writes, row-table-length fresh)
 
-pub once-some : (form : ℕ → Form) (l to : List (List ℕ)) (old new : ℕ) → MadeAtOnce form l to (Made old new) → 0 < new
-unfolding MadeAtOnce
-once-some form l to old new (a, (u, e, b, c)) = omega (arith, b, size-some u)
+pub once-some : (form : ℕ → Form) (l to : List (List ℕ)) (m : Made) → MadeAtOnce form l to m → 0 < m.rows
+once-some form l to m c = omega (arith, c.count, size-some c.made)
 
 -- a rule that goes does not stay and sends nothing
 pub goes-against : (form : ℕ → Form) (left right frames : List ℕ) (s : Stand) → Trying form left right frames s → Tries form left right frames s Tried.Uncounted → (x : Tried) → Tries form left right frames s x → ((old new : ℕ) → x ≡ Tried.Goes old new → ⊥) → (x ≡ Tried.Uncounted → ⊥) → ⊥
@@ -361,6 +359,6 @@ goes-against form left right frames s try y (Tried.Goes old new) z g n = g old n
 goes-against form left right frames s try y (Tried.Sends old) z g n =
     let a = (y try.number try.whole try.halted).1.1 in
     let b = (z try.number try.whole try.halted).1.2 in
-    let q : ◌≡◌ {A = ℕ} 1 0 = ap (λ (o : Out). elim o [ stay ↦ 0 | go c v ↦ elim c [ none ↦ 0 | some d ↦ 1 ] ]) (sym b ∙ a) in
+    let q : ◌≡◌ {A = ℕ} 1 0 = ap (λ (o : Out). elim o [ stay ↦ 0 | go c v ↦ elim c [ None ↦ 0 | Some d ↦ 1 ] ]) (sym b ∙ a) in
     omega arith
 goes-against form left right frames s try y Tried.Uncounted z g n = n refl

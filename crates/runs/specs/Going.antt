@@ -44,7 +44,7 @@ PutBack m kept kept' work s =
 
 -- The call ---------------------------------------------------------------------------------------------------------
 
--- document 01, "Sent call", from the rows of the call's tree: its own row, the tool's, then the arguments'
+-- a sent call, from the rows of the call's tree: its own row, the tool's, then the arguments'
 unfoldable pub letter_from : ℕ → List ℕ → List ℕ
 letter_from next call =
     write call_head (next ∷ number 4 (drop 12 call) ∷ (length call / 8 - 2) ∷ number 2 (drop 2 call) ∷ []) ++ drop 16 call

@@ -1,14 +1,15 @@
 -- What the loops of a run leave: the next rule that goes or sends, a step carried out, an answer. Assumes nothing.
 use Rattle.std.specs.Prelude.{ℕ, ◌+◌, ◌*◌, ◌-◌, ◌<◌, ◌≤◌, ◌≡◌, Bool, true, List, [], ◌∷◌, length}
-use Rattle.std.proofs.Math.Option.{some}
+use Rattle.std.specs.Prelude.{Some}
 use Rattle.meaning.specs.Bytes.{Limits, padded, record_bytes}
 use Rattle.meaning.specs.Types.{Form}
 use Rattle.meaning.specs.Terms.{Tree, size, top}
 use Rattle.meaning.specs.Steps.{Call, stay, go, value, step}
 use Rattle.meaning.specs.Records.{State, record_of, state_of, sound, row_count}
 use Rattle.meaning.specs.Entries.{sent, letter_of, runs, RunSays}
-use Rattle.meaning.specs.declared.Run.{Run}
-use Rattle.meaning.specs.declared.Run.TheVariants.{Ran, Rejected}
+use Rattle.meaning.specs.Answers.{Run}
+use Rattle.meaning.specs.Answers.{ended_by}
+use Rattle.std.specs.Prelude.{Ok, Err}
 use Rattle.search.specs.Frames.{around}
 use Rattle.search.specs.declared.Stand.{Stand}
 use Rattle.runs.specs.Sites.{Halted, own}
@@ -38,7 +39,7 @@ pub record Ready (m : Limits) (kept work frames : List ℕ) : Type 0 where
 -- the call where the search has stopped was sent: record and work buffer as they are after it
 abbrev pub SentOff : Limits → List ℕ → List ℕ → List ℕ → List ℕ → List ℕ → Stand → ℕ → ℕ → Type 0
 SentOff m kept kept' work work' frames s old next =
-    (form : ℕ → Form) (from : State) (t : Tree) (h : Halted form next (space m kept) work frames s t) (c : Call) (u : Tree) → Fronts m kept from → from.next ≡ next → from.calls ≡ (state_of m kept).calls → own form next h.tree ≡ go (some c) u → size h.tree ≡ old
+    (form : ℕ → Form) (from : State) (t : Tree) (h : Halted form next (space m kept) work frames s t) (c : Call) (u : Tree) → Fronts m kept from → from.next ≡ next → from.calls ≡ (state_of m kept).calls → own form next h.tree ≡ go (Some c) u → size h.tree ≡ old
     → (kept' ≡ record_of m (sent from c (top (around h.outer (u ∷ h.rest))))) × (work' ≡ padded (length work) (letter_of next c))
 
 -- On few frames ----------------------------------------------------------------------------------------------------
@@ -57,9 +58,9 @@ GoneSays m kept work frames budget (Left n) kept' work' = Outgrown m kept frames
 
 -- what a run says, said n steps later, and the steps that it says
 unfoldable pub said_later : ℕ → Run → Run
-said_later n (Ran a k) = Ran a (n + k)
-said_later n (Rejected x) = Rejected x
+said_later n (Ok r) = ended_by r.answer (n + r.steps)
+said_later n (Err x) = Err x
 
 unfoldable pub steps_said : Run → ℕ
-steps_said (Ran a k) = k
-steps_said (Rejected x) = 0
+steps_said (Ok r) = r.steps
+steps_said (Err x) = 0

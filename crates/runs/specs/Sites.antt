@@ -1,6 +1,6 @@
 -- Where a search stops: the tree whose own rule is tried, the frames around it and the trees behind it; and what comes next. Assumes nothing.
 use Rattle.std.specs.Prelude.{ℕ, ◌+◌, ◌*◌, ◌-◌, ◌<◌, ◌≤◌, ◌≡◌, Bool, true, false, List, ◌∷◌, length, take, drop}
-use Rattle.std.proofs.Math.Option.{none, some}
+use Rattle.std.specs.Prelude.{None, Some}
 use Rattle.meaning.specs.Bytes.{Limits, rows_at}
 use Rattle.meaning.specs.Types.{Form}
 use Rattle.meaning.specs.Terms.{Head, arity, Tree, Forest, node, flat, size, top}
@@ -48,9 +48,9 @@ pub record Turns (here : Bool) (t u : Tree) (old new : ℕ) : Type 0 where
 -- at the search, and the rows are not counted yet
 unfoldable pub Tells : Tried → Bool → (ℕ → Form) → ℕ → Tree → Type 0
 Tells Stays here form k t = own form k t ≡ stay
-Tells (Goes old new) here form k t = (u : Tree) × (own form k t ≡ go none u) × Turns here t u old new
-Tells Uncounted here form k t = (here ≡ true) × ((u : Tree) × (own form k t ≡ go none u))
-Tells (Sends old) here form k t = (size t ≡ old) × ((c : Call) × (u : Tree) × (own form k t ≡ go (some c) u))
+Tells (Goes old new) here form k t = (u : Tree) × (own form k t ≡ go None u) × Turns here t u old new
+Tells Uncounted here form k t = (here ≡ true) × ((u : Tree) × (own form k t ≡ go None u))
+Tells (Sends old) here form k t = (size t ≡ old) × ((c : Call) × (u : Tree) × (own form k t ≡ go (Some c) u))
 
 -- Going on ----------------------------------------------------------------------------------------------------------
 
@@ -83,7 +83,7 @@ pub record InRecord (m : Limits) (kept kept' : List ℕ) : Type 0 where
 pub record CallsOut (left right right' frames : List ℕ) (s s' : Stand) (old next : ℕ) : Type 0 where
   pub long : length right' ≡ length right
   pub room : Room left right' frames s'
-  pub sent : (form : ℕ → Form) (t : Tree) (h : Halted form next left right frames s t) (c : Call) (u : Tree) → own form next h.tree ≡ go (some c) u → size h.tree ≡ old
+  pub sent : (form : ℕ → Form) (t : Tree) (h : Halted form next left right frames s t) (c : Call) (u : Tree) → own form next h.tree ≡ go (Some c) u → size h.tree ≡ old
       → Whole form next left right' frames s' (top (around h.outer (u ∷ h.rest))) × (take (8 * old - 4) right' ≡ letter_of next c)
 
 -- a call is where the search has stopped
@@ -93,5 +93,5 @@ pub record Calling (left right frames : List ℕ) (s : Stand) (old next : ℕ) :
   pub halted : Halted form next left right frames s whole
   pub call : Call
   pub made : Tree
-  pub goes : own form next halted.tree ≡ go (some call) made
+  pub goes : own form next halted.tree ≡ go (Some call) made
   pub rows : size halted.tree ≡ old

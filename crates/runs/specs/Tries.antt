@@ -1,6 +1,6 @@
 -- A rule that is tried where the search has stopped, and one that is carried out. Assumes nothing.
 use Rattle.std.specs.Prelude.{ℕ, ◌+◌, ◌-◌, ◌≡◌, Bool, cond, List, [], ◌∷◌, map, eqb, ltb, length, get_or, take}
-use Rattle.std.proofs.Math.Option.{none}
+use Rattle.std.specs.Prelude.{None}
 use Rattle.meaning.specs.Bytes.{◌∧ᵇ◌}
 use Rattle.meaning.specs.Types.{Form}
 use Rattle.meaning.specs.Terms.{Tree, flat, raw, size, top}
@@ -33,33 +33,33 @@ Tries form left right frames s x = (k : ℕ) (t : Tree) (h : Halted form k left 
 pub record Turning (form : ℕ → Form) (left right frames : List ℕ) (s : Stand) (old new : ℕ) : Type 0 where
   pub trying : Trying form left right frames s
   pub made : Tree
-  pub goes : own form trying.number trying.halted.tree ≡ go none made
+  pub goes : own form trying.number trying.halted.tree ≡ go None made
   pub turns : Turns s.here trying.halted.tree made old new
 
 -- and writes all rows of the tree that it makes
 pub record Going (form : ℕ → Form) (left right frames : List ℕ) (s : Stand) (old new : ℕ) : Type 0 where
   pub trying : Trying form left right frames s
   pub made : Tree
-  pub goes : own form trying.number trying.halted.tree ≡ go none made
+  pub goes : own form trying.number trying.halted.tree ≡ go None made
   pub rows : size trying.halted.tree ≡ old
   pub made-rows : size made ≡ new
 
 -- the rows of the tree that it makes at the search are at the front of a table
 abbrev pub Stands : (ℕ → Form) → List ℕ → List ℕ → Stand → ℕ → Type 0
 Stands form right fresh s new =
-    (left frames : List ℕ) (k : ℕ) (t : Tree) (h : Halted form k left right frames s t) (u : Tree) → own form k h.tree ≡ go none u → take new (row_table fresh) ≡ map raw (flat u)
+    (left frames : List ℕ) (k : ℕ) (t : Tree) (h : Halted form k left right frames s t) (u : Tree) → own form k h.tree ≡ go None u → take new (row_table fresh) ≡ map raw (flat u)
 
 -- it is carried out: the new tree stands in the place of the old one
 pub record Makes (form : ℕ → Form) (left left' right right' : List ℕ) (s s' : Stand) (old new : ℕ) : Type 0 where
   pub long : length right' ≡ length right
-  pub changed : (k : ℕ) (frames : List ℕ) (t : Tree) (h : Halted form k left right frames s t) (u : Tree) → own form k h.tree ≡ go none u → Turns s.here h.tree u old new → Changed form k left' right' frames s' h.outer u h.rest
+  pub changed : (k : ℕ) (frames : List ℕ) (t : Tree) (h : Halted form k left right frames s t) (u : Tree) → own form k h.tree ≡ go None u → Turns s.here h.tree u old new → Changed form k left' right' frames s' h.outer u h.rest
 
 -- and the search is set where it goes on: the new whole has the rows of the old one, but for the tree's
 pub record Steps (form : ℕ → Form) (left left' right right' frames : List ℕ) (s s' : Stand) (old new : ℕ) : Type 0 where
   pub long : length right' ≡ length right
   pub room : Room left' right' frames s'
   pub total : s'.l + (row_count right' - s'.r) + old ≡ s.l + (row_count right - s.r) + new
-  pub reached : (k : ℕ) (t : Tree) (h : Halted form k left right frames s t) (u : Tree) → own form k h.tree ≡ go none u → Turns s.here h.tree u old new → Whole form k left' right' frames s' (top (around h.outer (u ∷ h.rest)))
+  pub reached : (k : ℕ) (t : Tree) (h : Halted form k left right frames s t) (u : Tree) → own form k h.tree ≡ go None u → Turns s.here h.tree u old new → Whole form k left' right' frames s' (top (around h.outer (u ∷ h.rest)))
 
 -- rows that begin with an application of a foreign function
 unfoldable pub call_by : List ℕ → Bool

@@ -13,19 +13,20 @@ ghost use Rattle.meaning.proofs.Bytes.RowTables.{legal};
 ghost use Rattle.search.specs.Search.{Room};
 ghost use Rattle.runs.specs.Sites.{Whole, Passing, Halts, GoesOn, InRecord, CallsOut, Calling};
 ghost use Rattle.runs.specs.Tries.{Trying, Tries, Turning, Going, Makes, Steps, Stands, Found, at_root, call_by};
-ghost use Rattle.runs.specs.declared.Tried.TheVariants.{Goes, Uncounted};
+ghost use Rattle.runs.specs.declared.Tried.TheVariants as Tried;
+ghost use Rattle.runs.specs.declared.Tried.TheVariants.{Goes, Sends, Uncounted};
 ghost use Rattle.runs.specs.Going.{space, Begins, PutBack, letter_from};
 ghost use Rattle.runs.specs.Loops.{TellsValue, SentOff, Ready, GoneSays, said_later, steps_said};
 ghost use Rattle.meaning.specs.Records.{head_sound, open_count};
 ghost use Rattle.meaning.specs.Entries.{RunSays};
-ghost use Rattle.meaning.specs.declared.Run.TheVariants.{Ran};
+ghost use Rattle.meaning.specs.Answers.{ended_by};
 ghost use Rattle.runs.specs.Sites.{Halted, own};
 ghost use Rattle.meaning.specs.Steps.{stay};
 
 use layout::Limits;
-use meaning::{Answer, Run};
-use put::Pass;
-use reduce::Outcome;
+use layout::kinds::Kind;
+use layout::views::Types;
+use meaning::{Answer, Ran, Run};
 use search::Stand;
 
 // Of a call's rows: the tool's number in the second, and where the arguments begin.
@@ -58,7 +59,7 @@ fn begin(kept: &[u8], work: &mut [u8], m: Limits) -> Stand
     layout::copy_to(work, layout::TERM_ROW * r, kept, from, layout::TERM_ROW * n);
     Stand {
         l: 0,
-        r: r,
+        r,
         d: 0,
         here: false,
     }
@@ -114,7 +115,7 @@ fn put_future(work: &mut [u8], r: usize, ty: u16, next: u32)
     ensures { work.new ≡ take (8 * (r - 1)) work.old ++ (write term_row (9 ∷ 0 ∷ ty ∷ next ∷ []) ++ drop (8 * (r - 1) + 8) work.old) }
 {
     let at = layout::TERM_ROW * (r - 1);
-    work[at] = 9;
+    work[at] = Kind::Future as u8;
     work[at + 1] = 0;
     layout::put16_at(work, at + layout::ROW_TYPE_AT, ty);
     layout::put32_at(work, at + layout::ROW_WORD_AT, next);
@@ -212,10 +213,9 @@ fn try_whole(kept: &[u8], work: &[u8], s: Stand) -> Tried
     let e = types_end(kept);
     let a = layout::TERM_ROW * r;
     let b = a + layout::TERM_ROW * n;
-    let o = reduce::count(&kept[layout::RECORD_HEAD..e], &work[a..b]);
-    match o {
-        Outcome::Stays => Tried::Stays,
-        Outcome::Goes(new) => Tried::Goes(n, new),
+    match reduce::count(&Types::new(&kept[layout::RECORD_HEAD..e]), &work[a..b]) {
+        None => Tried::Stays,
+        Some(new) => Tried::Goes(n, new),
     }
 }
 
@@ -228,12 +228,14 @@ fn try_here(kept: &[u8], work: &[u8], s: Stand) -> Tried
     if search::plain(work[layout::TERM_ROW * r]) {
         return Tried::Stays;
     }
-    let k = reduce::behind::rows_before(&work[layout::TERM_ROW * r..]);
-    if 0 < k {
+    if let Some(k) = reduce::behind::rows_before(&work[layout::TERM_ROW * r..]) {
         return Tried::Goes(k, 0);
     }
     let e = types_end(kept);
-    if reduce::once::goes(&kept[layout::RECORD_HEAD..e], &work[layout::TERM_ROW * r..]) {
+    if reduce::once::goes(
+        &Types::new(&kept[layout::RECORD_HEAD..e]),
+        &work[layout::TERM_ROW * r..],
+    ) {
         return Tried::Uncounted;
     }
     if reduce::once::calls_zip(&work[layout::TERM_ROW * r..]) {
@@ -255,9 +257,13 @@ fn make_here(kept: &mut [u8], work: &mut [u8], m: Limits, s: Stand, old: usize, 
     layout::copy_to(kept, p, work, layout::TERM_ROW * r, layout::TERM_ROW * old);
     let a = layout::TERM_ROW * (r + old - new);
     let b = a + layout::TERM_ROW * new;
-    reduce::reduce(&kept[layout::RECORD_HEAD..e], &kept[p..q], &mut work[a..b]);
+    reduce::reduce(
+        &Types::new(&kept[layout::RECORD_HEAD..e]),
+        &kept[p..q],
+        &mut work[a..b],
+    );
     Stand {
-        l: l,
+        l,
         r: r + old - new,
         d: s.d,
         here: false,
@@ -265,17 +271,14 @@ fn make_here(kept: &mut [u8], work: &mut [u8], m: Limits, s: Stand, old: usize, 
 }
 
 // Whether rows begin with an application of a foreign function.
+#[tactic(auto, using(search::proofs::Ors::ors), unfolding(crate::specs::Tries::call_by))]
 fn is_call(rows: &[u8]) -> bool
     requires { 8 ≤ length rows.now }
     ensures { result ≡ call_by rows.now }
 {
-    if rows[0] == 8 {
-        if layout::TERM_ROW < rows.len() {
-            return rows[layout::TERM_ROW] == 7;
-        }
-        return false;
-    }
-    false
+    rows[0] == Kind::Apply.number()
+        && layout::TERM_ROW < rows.len()
+        && rows[layout::TERM_ROW] == Kind::Foreign.number()
 }
 
 // The rule of the frame whose trees are passed is tried on all its rows: it comes last. A call is sent if all its arguments are values, as the frame's
@@ -298,10 +301,9 @@ fn try_last(kept: &[u8], frames: &[u32], m: Limits, s: Stand) -> Tried
         return Tried::Stays;
     }
     let e = types_end(kept);
-    let o = reduce::count(&kept[layout::RECORD_HEAD..e], &kept[p..q]);
-    match o {
-        Outcome::Stays => Tried::Stays,
-        Outcome::Goes(new) => Tried::Goes(n, new),
+    match reduce::count(&Types::new(&kept[layout::RECORD_HEAD..e]), &kept[p..q]) {
+        None => Tried::Stays,
+        Some(new) => Tried::Goes(n, new),
     }
 }
 
@@ -318,7 +320,8 @@ fn try_end(kept: &[u8], frames: &[u32], m: Limits, s: Stand) -> Tried
     try_last(kept, frames, m, s)
 }
 
-// A tree of old rows at the end of the rows passed becomes one of new rows, before the rows to come.
+// A tree of old rows at the end of the rows passed becomes one of new rows, before the rows to come. Apart from make_here: its rows are read where
+// they stand in the record, which stays, so neither loan nor facts are the same.
 fn make_end(kept: &[u8], work: &mut [u8], m: Limits, s: Stand, old: usize, new: usize) -> Stand
     requires { (length kept.now ≡ record_bytes (board m)) × (type_count kept.now ≤ m.types) × (s.here ≡ false) × (m.rows ≤ 2048) × (s.l ≤ m.rows) × ((frames : List ℕ) × Room (space (board m) kept.now) work.old frames s × (new ≤ s.r) × Going (form_of (types_in kept.now)) (space (board m) kept.now) work.old frames s old new) }
     ensures { Makes (form_of (types_in kept.now)) (space (board m) kept.now) (space (board m) kept.now) work.old work.new s result old new }
@@ -330,7 +333,11 @@ fn make_end(kept: &[u8], work: &mut [u8], m: Limits, s: Stand, old: usize, new: 
     let q = p + layout::TERM_ROW * old;
     let a = layout::TERM_ROW * (r - new);
     let b = a + layout::TERM_ROW * new;
-    reduce::reduce(&kept[layout::RECORD_HEAD..e], &kept[p..q], &mut work[a..b]);
+    reduce::reduce(
+        &Types::new(&kept[layout::RECORD_HEAD..e]),
+        &kept[p..q],
+        &mut work[a..b],
+    );
     Stand {
         l: l - old,
         r: r - new,
@@ -408,37 +415,7 @@ fn step_anew(
     search::back_up(&kept[at..], work, frames, e)
 }
 
-// The same where the new tree stands already.
-fn step_over(kept: &[u8], work: &mut [u8], frames: &[u32], m: Limits, s: Stand, c: Change) -> Stand
-    requires { (c.new ≡ 0) × (length kept.now ≡ record_bytes (board m)) × (type_count kept.now ≤ m.types) × (m.rows ≤ 2048) × (s.l + (row_count work.old - s.r) ≤ m.rows) × (m.rows + 2 ≤ row_count work.old) × (s.l + (row_count work.old - s.r) + c.new ≤ m.rows + c.old) × (s.l + (row_count work.old - s.r) + c.new ≤ length frames.now + c.old) × Room (space (board m) kept.now) work.old frames.now s × Turning (form_of (types_in kept.now)) (space (board m) kept.now) work.old frames.now s c.old c.new }
-    ensures { Steps (form_of (types_in kept.now)) (space (board m) kept.now) (space (board m) kept.now) work.old work.new frames.now s result c.old c.new }
-{
-    let at = layout::rows_at(m);
-    search::back_up(
-        &kept[at..],
-        work,
-        frames,
-        Stand {
-            l: s.l,
-            r: s.r + c.old,
-            d: s.d,
-            here: false,
-        },
-    )
-}
-
-// A step.
-fn step(kept: &mut [u8], work: &mut [u8], frames: &[u32], m: Limits, s: Stand, c: Change) -> Stand
-    requires { (length kept.old ≡ record_bytes (board m)) × (type_count kept.old ≤ m.types) × (m.rows ≤ 2048) × (s.l + (row_count work.old - s.r) ≤ m.rows) × (m.rows + 2 ≤ row_count work.old) × (s.l + (row_count work.old - s.r) + c.new ≤ m.rows + c.old) × (s.l + (row_count work.old - s.r) + c.new ≤ length frames.now + c.old) × Room (space (board m) kept.old) work.old frames.now s × Turning (form_of (types_in kept.old)) (space (board m) kept.old) work.old frames.now s c.old c.new }
-    ensures { InRecord (board m) kept.old kept.new × Steps (form_of (types_in kept.old)) (space (board m) kept.old) (space (board m) kept.new) work.old work.new frames.now s result c.old c.new }
-{
-    if c.new == 0 {
-        return step_over(kept, work, frames, m, s, c);
-    }
-    step_anew(kept, work, frames, m, s, c)
-}
-
-// The rows that give way, how many come in their place, and whether those are made already.
+// The rows that give way, how many come in their place, and whether those are made already. A flag and no Option: both numbers count either way.
 #[derive(Clone, Copy)]
 pub struct Fresh {
     pub old: usize,
@@ -454,22 +431,22 @@ fn make_fresh(kept: &[u8], work: &[u8], fresh: &mut [u8], s: Stand) -> Fresh
     let r = s.r;
     let e = types_end(kept);
     let p = reduce::once::make(
-        &kept[layout::RECORD_HEAD..e],
+        &Types::new(&kept[layout::RECORD_HEAD..e]),
         &work[layout::TERM_ROW * r..],
         fresh,
     );
     match p {
-        Pass::Made(old, new) => Fresh {
-            old: old,
-            new: new,
+        Some(m) => Fresh {
+            old: m.end,
+            new: m.rows,
             made: true,
         },
-        Pass::Unknown => {
+        None => {
             let x = try_whole(kept, work, s);
             match x {
                 Tried::Goes(old, new) => Fresh {
-                    old: old,
-                    new: new,
+                    old,
+                    new,
                     made: false,
                 },
                 Tried::Stays => Fresh {
@@ -490,6 +467,27 @@ fn make_fresh(kept: &[u8], work: &[u8], fresh: &mut [u8], s: Stand) -> Fresh
             }
         }
     }
+}
+
+// The rows that the rule where the search has stopped makes: those that are counted already are made by the step.
+fn make_rows(kept: &[u8], work: &[u8], fresh: &mut [u8], s: Stand, tried: Tried) -> Fresh
+    requires types { 20 + 36 * type_count kept.now ≤ length kept.now }
+    requires rows { row_count work.now ≤ 4096 }
+    requires room { length fresh.old ≤ 32768 }
+    requires goes { tried ≡ Tried.Stays → ⊥ }
+    requires sends_nothing { (n : ℕ) → tried ≡ Sends n → ⊥ }
+    requires trying { (left : List ℕ) × (frames : List ℕ) × Trying (form_of (types_in kept.now)) left work.now frames s × Room left work.now frames s × (row_count work.now - s.r ≤ 2048) × Tries (form_of (types_in kept.now)) left work.now frames s tried }
+    ensures counted { (left : List ℕ) (frames : List ℕ) → Tries (form_of (types_in kept.now)) left work.now frames s tried → Tries (form_of (types_in kept.now)) left work.now frames s (Goes result.old result.new) }
+    ensures made { result.made ≡ true → (s.here ≡ true) × (0 < result.new) × Stands (form_of (types_in kept.now)) work.now fresh.new s result.new }
+{
+    if let Tried::Goes(old, new) = tried {
+        return Fresh {
+            old,
+            new,
+            made: false,
+        };
+    }
+    make_fresh(kept, work, fresh, s)
 }
 
 // Rows that are made already come to stand where the tree at the search ended.
@@ -515,8 +513,8 @@ pub struct Place {
     pub x: Fresh,
 }
 
-// A step whose rows may be made already.
-fn step_fresh(
+// A step.
+fn step(
     kept: &mut [u8],
     work: &mut [u8],
     frames: &[u32],
@@ -556,14 +554,11 @@ pub struct Next {
 }
 
 // Whether no frame is around the tree where the search has stopped.
+#[tactic(auto, unfolding(crate::specs::Tries::at_root))]
 fn at_root(s: Stand) -> bool
     ensures { result ≡ at_root s }
 {
-    let here = s.here;
-    if here {
-        return s.d == 0;
-    }
-    s.d == 1
+    if s.here { s.d == 0 } else { s.d == 1 }
 }
 
 // The search goes on until a rule goes or sends, or everything is passed.
@@ -574,35 +569,15 @@ fn next_step(kept: &mut [u8], work: &[u8], frames: &mut [u32], m: Limits, start:
     let mut s = start;
     loop {
         let e = seek_in(kept, work, frames, m, s);
-        let x = try_rule(kept, work, frames, m, e);
-        match x {
-            Tried::Goes(old, new) => {
-                return Next {
-                    s: e,
-                    tried: Tried::Goes(old, new),
-                };
-            }
-            Tried::Sends(old) => {
-                return Next {
-                    s: e,
-                    tried: Tried::Sends(old),
-                };
-            }
+        let tried = try_rule(kept, work, frames, m, e);
+        match tried {
             Tried::Stays => {
                 if at_root(e) {
-                    return Next {
-                        s: e,
-                        tried: Tried::Stays,
-                    };
+                    return Next { s: e, tried };
                 }
                 s = stay_on(kept, work, frames, m, e);
             }
-            Tried::Uncounted => {
-                return Next {
-                    s: e,
-                    tried: Tried::Uncounted,
-                };
-            }
+            _ => return Next { s: e, tried },
         }
     }
 }
@@ -625,10 +600,13 @@ fn value_at(kept: &[u8], work: &[u8], frames: &[u32], m: Limits, s: Stand) -> bo
 // The run ends here with an answer.
 fn halt(kept: &mut [u8], work: &mut [u8], m: Limits, s: Stand, a: Answer, made: u32) -> Run
     requires { (length kept.old ≡ record_bytes (board m)) × (s.r ≤ row_count work.old) × (s.l + (row_count work.old - s.r) ≤ m.rows) × (length work.old ≤ 32768) }
-    ensures { (result ≡ Ran a made) × PutBack (board m) kept.old kept.new work.old s × (work.new ≡ replicate (length work.old) 0) }
+    ensures { (result ≡ ended_by a made) × PutBack (board m) kept.old kept.new work.old s × (work.new ≡ replicate (length work.old) 0) }
 {
     finish(kept, work, m, s);
-    Run::Ran(a, made)
+    Ok(Ran {
+        answer: a,
+        steps: made,
+    })
 }
 
 // The call where the search has stopped is sent: its letter in the work buffer, its future in the record, its entry in the list.
@@ -661,13 +639,10 @@ fn outgrows(frames: &[u32], work: &[u8], s: Stand, old: usize, new: usize) -> bo
     requires { (s.r ≤ row_count work.now) × (row_count work.now ≤ 4096) × (s.l ≤ 4096) × (length frames.now ≤ 4096) × (old ≤ 4096) × (new ≤ 8192) }
     ensures { (result ≡ false → s.l + (row_count work.now - s.r) + new ≤ length frames.now + old) × (result ≡ true → length frames.now + old < s.l + (row_count work.now - s.r) + new) }
 {
-    if frames.len() + old < s.l + (layout::term_rows(work) - s.r) + new {
-        return true;
-    }
-    false
+    frames.len() + old < s.l + (layout::term_rows(work) - s.r) + new
 }
 
-// How a run on some frames ends: with an answer, or where its term outgrows them, after some steps.
+// How a run on some frames ends: with an answer, or where its term outgrows them, after some steps. Neither is a failure, so no Result.
 #[derive(Clone, Copy)]
 pub enum Gone {
     Ended(Run),
@@ -691,27 +666,12 @@ fn go(
     loop {
         let n = next_step(kept, work, frames, m, s);
         let at = n.s;
-        let x = n.tried;
-        match x {
+        match n.tried {
             Tried::Stays => {
                 if value_at(kept, work, frames, m, at) {
                     return Gone::Ended(halt(kept, work, m, at, Answer::Value, made));
                 }
                 return Gone::Ended(halt(kept, work, m, at, Answer::Waiting, made));
-            }
-            Tried::Goes(old, new) => {
-                if spare(work, m, at, old) < new {
-                    return Gone::Ended(halt(kept, work, m, at, Answer::Room, made));
-                }
-                if made == budget {
-                    return Gone::Ended(halt(kept, work, m, at, Answer::Budget, made));
-                }
-                if outgrows(frames, work, at, old, new) {
-                    put_back(kept, work, m, at);
-                    return Gone::Left(made);
-                }
-                s = step(kept, work, frames, m, at, Change { old: old, new: new });
-                made += 1;
             }
             Tried::Sends(old) => {
                 if m.calls <= sound::head::open_count(kept) {
@@ -724,21 +684,14 @@ fn go(
                 if made == budget {
                     return Gone::Ended(halt(kept, work, m, at, Answer::Budget, made));
                 }
-                send(
-                    kept,
-                    work,
-                    frames,
-                    m,
-                    at,
-                    Outgoing {
-                        old: old,
-                        next: next,
-                    },
-                );
-                return Gone::Ended(Run::Ran(Answer::Sent(next), made + 1));
+                send(kept, work, frames, m, at, Outgoing { old, next });
+                return Gone::Ended(Ok(Ran {
+                    answer: Answer::Sent(next),
+                    steps: made + 1,
+                }));
             }
-            Tried::Uncounted => {
-                let f = make_fresh(kept, work, fresh, at);
+            _ => {
+                let f = make_rows(kept, work, fresh, at, n.tried);
                 if spare(work, m, at, f.old) < f.new {
                     return Gone::Ended(halt(kept, work, m, at, Answer::Room, made));
                 }
@@ -749,7 +702,7 @@ fn go(
                     put_back(kept, work, m, at);
                     return Gone::Left(made);
                 }
-                s = step_fresh(kept, work, frames, fresh, m, Place { s: at, x: f });
+                s = step(kept, work, frames, fresh, m, Place { s: at, x: f });
                 made += 1;
             }
         }
@@ -779,30 +732,48 @@ fn ride(kept: &mut [u8], work: &mut [u8], frames: &mut [u32], fresh: &mut [u8], 
     go(kept, work, frames, fresh, arm_limits(), budget)
 }
 
+// The same with room for so many frames and so many bytes of new rows.
+fn ride_within<const FRAMES: usize, const FRESH: usize>(
+    kept: &mut [u8],
+    work: &mut [u8],
+    budget: u32,
+) -> Gone
+    requires ready { Ready arm kept.old work.old (replicate FRAMES 0) }
+    requires fresh { FRESH ≤ 32768 }
+    ensures { GoneSays arm kept.old work.old (replicate FRAMES 0) budget result kept.new work.new }
+{
+    let mut frames = [0u32; FRAMES];
+    let mut fresh = [0u8; FRESH];
+    ride(kept, work, &mut frames, &mut fresh, budget)
+}
+
 // A run with room for any term.
 fn run_far(kept: &mut [u8], work: &mut [u8], budget: u32) -> Run
     requires { Ready arm kept.old work.old (replicate 2048 0) }
     ensures { RunSays arm kept.old work.old budget result kept.new work.new }
 {
-    let mut frames = [0u32; 2048];
-    let mut fresh = [0u8; 16384];
-    let g = ride(kept, work, &mut frames, &mut fresh, budget);
+    let g = ride_within::<2048, 16384>(kept, work, budget);
     match g {
         Gone::Ended(r) => r,
         // never: there is a frame for each row that a term may have
-        Gone::Left(n) => Run::Ran(Answer::Budget, n),
+        Gone::Left(n) => Ok(Ran {
+            answer: Answer::Budget,
+            steps: n,
+        }),
     }
 }
 
 // What a run says, said n steps later.
+#[tactic(auto, unfolding(crate::specs::Loops::said_later, crate::specs::Loops::steps_said))]
 fn said_later(n: u32, r: Run) -> Run
     requires { n + steps_said r < 4294967296 }
     ensures { result ≡ said_later n r }
 {
-    match r {
-        Run::Ran(a, k) => Run::Ran(a, n + k),
-        Run::Rejected(x) => Run::Rejected(x),
-    }
+    let ran = r?;
+    Ok(Ran {
+        steps: n + ran.steps,
+        ..ran
+    })
 }
 
 // Terms of up to so many rows begin on few frames.
@@ -816,9 +787,7 @@ pub fn run(kept: &mut [u8], work: &mut [u8], budget: u32) -> Run
     if FEW < sound::head::row_count(kept) {
         return run_far(kept, work, budget);
     }
-    let mut frames = [0u32; 256];
-    let mut fresh = [0u8; 2048];
-    let g = ride(kept, work, &mut frames, &mut fresh, budget);
+    let g = ride_within::<256, 2048>(kept, work, budget);
     match g {
         Gone::Ended(r) => r,
         Gone::Left(n) => {

@@ -212,3 +212,6 @@ module _ (left left1 right frames frames1 : List ℕ) (s s1 : Stand) (room : Roo
         let r3 : 8 * s2.r + 8 ≡ 8 * (s.r + 3) = omega arith in
         let waiting = call-waits (get_or right (8 * s2.r) 0) (next_kind right s2.r) (ap (λ (i : ℕ). get_or right (8 * i) 0) r2 ∙ b.inner) (next-some right s2.r (omega (arith, r2, b.long)) ∙ ap (λ (i : ℕ). get_or right i 0) r3 ∙ b.next) in
         (frame-sight form k left2 right frames2 s2 room2 s.d on-d true true Fs ts n s.l o at b.arguments (sym (second-looked left2 s.l right s2.r n many kind-on function-on)) refl (record { waiting = λ y. waiting; zipping = λ y. absurd (false≢true (sym y)) }) x).0 refl
+
+-- a frame that is made of values looks at all its trees
+pub ruleset looked = (all-looked)

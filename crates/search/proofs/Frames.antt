@@ -4,7 +4,7 @@ use Prim.Native.Nat.{ℕ, zero, suc, ◌<◌}
 use mathlib.Core.Path.{◌≡◌, refl, ap, sym, ◌∙◌, subst}
 use mathlib.Core.Bool.{Bool, true, false, cond, not, false≢true}
 use mathlib.Core.List.{List, [], ◌∷◌, ◌++◌, append_assoc}
-use mathlib.Core.Option.{Option, none, some}
+use Rattle.std.specs.Prelude.{Option, None, Some}
 use native.Mathlib.Omega.{arith}
 use lib.ListN.{length, drop}
 use lib.Seq.{drop_at}
@@ -320,13 +320,13 @@ module _ (n u : ℕ) (b : Tree) (B ts : List Tree) (e : length B ≡ n) where
   module _ (form : ℕ → Form) (k : ℕ) (v : Bool) (d : Stands form k (record { head = apply n; type = u; before = b ∷ B; clear = v }) ts) where
     -- a call is sent if nothing in it is stuck
     pub call-left : is 7 b ≡ true
-        → contract form k (apply n) u call ≡ cond v (go (some (record { tool = word_of (head_of b); rows = flats (kids n (B ++ ts)); result = u })) (node (future k) u end)) stay
+        → contract form k (apply n) u call ≡ cond v (go (Some (record { tool = word_of (head_of b); rows = flats (kids n (B ++ ts)); result = u })) (node (future k) u end)) stay
     unfolding below contract apply_step send_step kids
     call-left q = rw (kinds-differ 7 6 b q refl, q, sym (calm-call q), d.told) refl
 
     -- a zip reduces if nothing in it was looked at
     pub zip-left : is 15 b ≡ true
-        → contract form k (apply n) u call ≡ cond v (cond (any_nil (n_of (head_of b)) (kids n (B ++ ts))) (go none (node nil u end)) (go none (zip_cons form u (n_of (head_of b)) b (kids n (B ++ ts))))) stay
+        → contract form k (apply n) u call ≡ cond v (cond (any_nil (n_of (head_of b)) (kids n (B ++ ts))) (go None (node nil u end)) (go None (zip_cons form u (n_of (head_of b)) b (kids n (B ++ ts))))) stay
     unfolding below contract apply_step zip_step kids
     zip-left q = rw (kinds-differ 15 6 b q refl, kinds-differ 15 7 b q refl, q, sym (calm-zip q), d.told) refl
 

@@ -13,3 +13,4 @@ pub mod Values
 pub mod Calls
 pub mod Moves
 pub mod Resumed
+pub mod Ors

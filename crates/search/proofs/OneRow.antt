@@ -3,7 +3,7 @@ use Prim.Native.Nat.{ℕ, zero, suc, ◌<◌}
 use mathlib.Core.Path.{◌≡◌, refl, ap, sym, ◌∙◌}
 use mathlib.Core.Bool.{Bool, true, false, cond, not, false≢true}
 use mathlib.Core.List.{List, [], ◌∷◌, ◌++◌}
-use mathlib.Core.Option.{none}
+use Rattle.std.specs.Prelude.{None}
 use native.Mathlib.Omega.{arith}
 use lib.Dec.{eqb}
 use borrow.Author.Tests.{eqb-true}
@@ -36,7 +36,7 @@ unfolding visit head_goes tail_goes
 unvisited false o t f r p e = rw e refl
 unvisited true o t f r p e = rw (p refl, e) refl
 
-two-stay : (p q : Bool) (a b : Tree) → (p ∨ᵇ q) ≡ false → cond p (go none a) (cond q (go none b) stay) ≡ stay
+two-stay : (p q : Bool) (a b : Tree) → (p ∨ᵇ q) ≡ false → cond p (go None a) (cond q (go None b) stay) ≡ stay
 unfolding ◌∨ᵇ◌
 two-stay true q a b e = absurd (false≢true (sym e))
 two-stay false true a b e = absurd (false≢true (sym e))

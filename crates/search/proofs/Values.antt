@@ -1,5 +1,5 @@
 -- Values by their rows: the rows that are parts of them, trees that are made of such rows, rules that stay. Assumes nothing.
-use Prim.Native.Nat.{ℕ, zero, suc, ◌+◌, ◌*◌, ◌-◌, ◌/◌, ◌%◌, ◌^◌, ◌<◌, ◌≤◌}
+use Prim.Native.Nat.{ℕ, zero, suc, ◌+◌, ◌*◌, ◌-◌, ◌<◌, ◌≤◌}
 use mathlib.Core.Path.{◌≡◌, refl, ap, sym, ◌∙◌}
 use mathlib.Core.Bool.{Bool, true, false, false≢true}
 use mathlib.Core.List.{List, [], ◌∷◌}
@@ -8,7 +8,6 @@ use native.Mathlib.Numerals.{add-one}
 use native.Mathlib.Decide.{dec_lt}
 use native.Mathlib.Nat.{add-zero, add-suc}
 use borrow.Author.Tests.{ne_eqb}
-use lib.Dec.{eqb}
 use lib.ListN.{length, get_or, take, drop}
 use lib.Seq.{drop-nil, drop-cons}
 use Rattle.layout.specs.Rows.{numbers, term_rows}
@@ -70,33 +69,9 @@ module _ (form : ℕ → Form) (k u : ℕ) where
 
 -- The rows that are parts of values ------------------------------------------------------------------------------
 
-pub no_part : (k : ℕ) → 16 < k → member k part_kinds ≡ false
+no_part : (k : ℕ) → 16 < k → member k part_kinds ≡ false
 unfolding member
 no_part k h = rw (ne_eqb k 1 (omega arith), ne_eqb k 2 (omega arith), ne_eqb k 3 (omega arith), ne_eqb k 4 (omega arith), ne_eqb k 7 (omega arith), ne_eqb k 12 (omega arith), ne_eqb k 13 (omega arith), ne_eqb k 16 (omega arith)) refl
-
--- one bit a kind
-abbrev PartBit : ℕ → Type 0
-PartBit k = eqb (77982 / 2 ^ k % 2) 1 ≡ member k part_kinds
-
-bits_at : Below PartBit 17
-unfolding member
-bits_at = (((((((((((((((((tt, refl), refl), refl), refl), refl), refl), refl), refl), refl), refl), refl), refl), refl), refl), refl), refl), refl)
-
-pub part-bit : (k : ℕ) → k < 17 → PartBit k
-part-bit k h = below PartBit 17 bits_at k h
-
-module _ (k n c : ℕ) where
-  pub parts-tuple : k ≡ 16 → c ≡ n → n ≤ 255 → (c ≡ parts_below k n) × (c ≤ 255)
-  unfolding parts_below
-  parts-tuple e q h = (rw e q, omega arith)
-
-  pub parts-cons : k ≡ 13 → c ≡ 2 → (c ≡ parts_below k n) × (c ≤ 255)
-  unfolding parts_below
-  parts-cons e q = (rw e q, omega arith)
-
-  pub parts_none : (k ≡ 13 → ⊥) → (k ≡ 16 → ⊥) → c ≡ 0 → (c ≡ parts_below k n) × (c ≤ 255)
-  unfolding parts_below
-  parts_none e g q = (rw (ne_eqb k 16 g, ne_eqb k 13 e) q, omega arith)
 
 no-trees : (f : Forest 0) → values f ≡ true
 unfolding values

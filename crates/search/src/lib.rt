@@ -12,6 +12,8 @@ ghost use Rattle.search.specs.Kept.{row_count, kind_at, row_in, owed_in, flag_in
 ghost use Rattle.search.specs.Search.{next_kind, looked_by, Into, Room, Somewhere, Sees, Stops, Spans, SpansHere, Nested, Delves, Resumes};
 ghost use Rattle.search.specs.declared.Sight.TheVariants.{Enter};
 
+use layout::kinds::Kind;
+
 // What a search sees where it stands.
 #[derive(Clone, Copy)]
 pub enum Sight {
@@ -72,72 +74,42 @@ fn passed_number(x: u32, fine: bool) -> u32
     x - 2 - x % 2
 }
 
+#[tactic(auto, using(crate::proofs::Ors::ors))]
 fn is_list(k: u8) -> bool
     ensures { result ≡ (eqb k 12 ∨ᵇ eqb k 13) }
 {
-    if k == 12 {
-        return true;
-    }
-    k == 13
+    matches!(Kind::of(k), Some(Kind::Nil | Kind::Cons))
 }
 
 // Whether a row of kind k is looked into before its own rule is tried, where its first tree is of kind c.
+#[tactic(auto, using(crate::proofs::Ors::ors), unfolding(crate::specs::Kinds::waits_by))]
 fn waits(k: u8, c: u8) -> bool
     ensures { result ≡ waits_by k c }
 {
-    if k == 8 {
-        return c != 6;
+    match Kind::of(k) {
+        Some(Kind::Apply) => c != Kind::Native.number(),
+        Some(Kind::If) => c != Kind::True.number() && c != Kind::False.number(),
+        Some(Kind::Cons | Kind::Tuple) => true,
+        Some(Kind::IsNil | Kind::ListProject) => !is_list(c),
+        Some(Kind::Project) => c != Kind::Tuple.number(),
+        _ => false,
     }
-    if k == 10 {
-        if c == 3 {
-            return false;
-        }
-        return c != 4;
-    }
-    if k == 13 {
-        return true;
-    }
-    if k == 14 {
-        return !is_list(c);
-    }
-    if k == 16 {
-        return true;
-    }
-    if k == 17 {
-        return c != 16;
-    }
-    if k == 18 {
-        return !is_list(c);
-    }
-    false
 }
 
 // Whether a row of kind k that waits looks at its place j, where a tree of kind t stands: its first tree is of kind c with mask m.
+#[tactic(auto, using(crate::proofs::Ors::ors), unfolding(crate::specs::Kinds::looks_by))]
 fn looks(k: u8, j: usize, c: u8, m: u8, t: u8) -> bool
     ensures { result ≡ looks_by k j c m t }
 {
-    if k == 8 {
-        if c == 7 {
-            return j != 0;
-        }
-        if c == 15 {
-            if j == 0 {
-                return false;
-            }
-            if terms::masks::mask_bit(m, j - 1) {
-                return !is_list(t);
-            }
-            return false;
-        }
-        return j == 0;
+    match Kind::of(k) {
+        Some(Kind::Apply) => match Kind::of(c) {
+            Some(Kind::Foreign) => j != 0,
+            Some(Kind::Zip) => j != 0 && terms::masks::mask_bit(m, j - 1) && !is_list(t),
+            _ => j == 0,
+        },
+        Some(Kind::Cons | Kind::Tuple) => true,
+        _ => j == 0,
     }
-    if k == 13 {
-        return true;
-    }
-    if k == 16 {
-        return true;
-    }
-    j == 0
 }
 
 // The row at the search goes to the rows passed and becomes a frame: all its trees are to come.
@@ -198,7 +170,7 @@ fn pass_rows(
     Stand {
         l: l + n,
         r: r + n,
-        d: d,
+        d,
         here: false,
     }
 }
@@ -268,14 +240,12 @@ fn looked_in(left: &[u8], at: usize, right: &[u8], r: usize, o: usize) -> bool
 }
 
 // The same, at once of a frame that is made of values: it looks at all its trees.
+#[tactic(auto, using(crate::proofs::Calls::looked))]
 fn looked_at(left: &[u8], at: usize, right: &[u8], r: usize, o: usize) -> bool
     requires { (8 * at + 8 ≤ length left.now) × (at ≤ 4096) × (8 * r + 8 ≤ length right.now) × (o ≤ arity (row_of (read term_row (drop (8 * at) left.now))).head) × ((arity (row_of (read term_row (drop (8 * at) left.now))).head ≡ o → ⊥) → 8 * at + 16 ≤ length left.now) }
     ensures { result ≡ looked_by left.now at right.now r o }
 {
-    if made_of_values(left[layout::TERM_ROW * at]) {
-        return true;
-    }
-    looked_in(left, at, right, r, o)
+    made_of_values(left[layout::TERM_ROW * at]) || looked_in(left, at, right, r, o)
 }
 
 // What is in sight of a search.
@@ -306,50 +276,38 @@ fn look_ahead(left: &[u8], right: &[u8], frames: &[u32], s: Stand) -> Sight
 }
 
 // Whether a row of kind k is a value, whatever is below it; and whether it is one if the trees below it are.
+#[tactic(auto, unfolding(meaning::specs::Types::member))]
 pub fn plain(k: u8) -> bool
     ensures { result ≡ member k value_kinds }
 {
-    if k == 1 {
-        return true;
-    }
-    if k == 2 {
-        return true;
-    }
-    if k == 3 {
-        return true;
-    }
-    if k == 4 {
-        return true;
-    }
-    if k == 6 {
-        return true;
-    }
-    if k == 7 {
-        return true;
-    }
-    if k == 12 {
-        return true;
-    }
-    k == 15
+    matches!(
+        Kind::of(k),
+        Some(
+            Kind::Text
+                | Kind::File
+                | Kind::True
+                | Kind::False
+                | Kind::Native
+                | Kind::Foreign
+                | Kind::Nil
+                | Kind::Zip
+        )
+    )
 }
 
+#[tactic(auto, unfolding(meaning::specs::Types::member))]
 fn made_of_values(k: u8) -> bool
     ensures { result ≡ member k made_of_values }
 {
-    if k == 13 {
-        return true;
-    }
-    k == 16
+    matches!(Kind::of(k), Some(Kind::Cons | Kind::Tuple))
 }
 
 // Whether a frame of kind k with a first tree of kind c wants values: all but a zip.
+#[tactic(auto, using(crate::proofs::Ors::ors), unfolding(crate::specs::Kept::wants))]
 fn wants_values(k: u8, c: u8) -> bool
     ensures { result ≡ wants k c }
 {
-    if k == 8 {
-        return c != 15;
-    }
-    true
+    k != Kind::Apply.number() || c != Kind::Zip.number()
 }
 
 // The kind of the first tree of the frame at row `at`, where l rows are passed and a tree of kind k stands at the search.
@@ -377,15 +335,12 @@ fn wants_here(left: &[u8], right: &[u8], frames: &[u32], s: Stand) -> bool
 }
 
 // Whether the tree at the search, whose own rule stays, is as the innermost frame wants it.
+#[tactic(auto, using(crate::proofs::Ors::ors), unfolding(crate::specs::Kept::fits_here))]
 fn fits_here(left: &[u8], right: &[u8], frames: &[u32], s: Stand) -> bool
     requires { (8 * s.l ≤ length left.now) × (s.l ≤ 4096) × (s.r < row_count right.now) × (0 < s.d) × (s.d ≤ length frames.now) × (row_in (get_or frames.now (s.d - 1) 0) < s.l) }
     ensures { result ≡ fits_here left.now right.now frames.now s }
 {
-    if wants_here(left, right, frames, s) {
-        let r = s.r;
-        return plain(right[layout::TERM_ROW * r]);
-    }
-    false
+    wants_here(left, right, frames, s) && plain(right[layout::TERM_ROW * s.r])
 }
 
 // The tree at the search, whose own rule stays, is passed.
@@ -407,30 +362,26 @@ pub fn builds(left: &[u8], frames: &[u32], i: usize) -> bool
 }
 
 // Whether the tree of frame i, all of whose trees are passed, is a value where its own rule stays.
+#[tactic(auto, using(crate::proofs::Ors::ors), unfolding(crate::specs::Kept::value_end))]
 pub fn value_end(left: &[u8], frames: &[u32], i: usize) -> bool
     requires { (i < length frames.now) × (i ≤ 4096) × (8 * row_in (get_or frames.now i 0) + 8 ≤ length left.now) }
     ensures { result ≡ value_end left.now frames.now i }
 {
-    if builds(left, frames, i) {
-        return flag_in(frames[i]);
-    }
-    false
+    builds(left, frames, i) && flag_in(frames[i])
 }
 
 // The same, and the frame around it wants it so.
+#[tactic(auto, using(crate::proofs::Ors::ors), unfolding(crate::specs::Kept::fits_end))]
 fn fits_end(left: &[u8], frames: &[u32], s: Stand) -> bool
     requires { (2 ≤ s.d) × (s.d ≤ 4096) × (s.d ≤ length frames.now) × (8 * row_in (get_or frames.now (s.d - 1) 0) + 8 ≤ length left.now) × (8 * row_in (get_or frames.now (s.d - 2) 0) + 16 ≤ length left.now) }
     ensures { result ≡ fits_end left.now frames.now s }
 {
-    let d = s.d;
-    let at = row_in(frames[d - 2]);
-    if wants_values(
+    let at = row_in(frames[s.d - 2]);
+    let wants = wants_values(
         left[layout::TERM_ROW * at],
         left[layout::TERM_ROW * (at + 1)],
-    ) {
-        return value_end(left, frames, d - 1);
-    }
-    false
+    );
+    wants && value_end(left, frames, s.d - 1)
 }
 
 // The innermost frame, whose own rule stays, is left: its tree is passed in the frame around it.
@@ -457,31 +408,29 @@ pub enum Span {
     Part(usize),
 }
 
-// One bit a kind: the rows that are values with no tree below them, and those that are made of values.
-const PARTS: u32 = 0b0001_0011_0000_1001_1110;
-
-// Whether a row of kind k is part of a value by its kind alone.
+// Whether a row of kind k is part of a value by its kind alone: it is a value with no tree below it, or made of values.
+#[tactic(auto, unfolding(meaning::specs::Types::member))]
 fn is_part(k: u8) -> bool
     ensures { result ≡ member k part_kinds }
 {
-    if 16 < k {
-        return false;
+    match Kind::of(k) {
+        Some(Kind::Text | Kind::File | Kind::True | Kind::False) => true,
+        Some(Kind::Foreign | Kind::Nil | Kind::Cons | Kind::Tuple) => true,
+        _ => false,
     }
-    (PARTS >> k) % 2 == 1
 }
 
 // How many trees such a row has below it.
+#[tactic(auto, unfolding(crate::specs::Kinds::parts_below))]
 fn parts_below(k: u8, n: u8) -> usize
-    ensures { (result ≡ parts_below k n) × (result ≤ 255) }
+    ensures value { result ≡ parts_below k n }
+    ensures few { result ≤ 255 }
 {
-    let mut c: usize = 0;
-    if k == 13 {
-        c = 2;
+    match Kind::of(k) {
+        Some(Kind::Cons) => 2,
+        Some(Kind::Tuple) => n as usize,
+        _ => 0,
     }
-    if k == 16 {
-        c = n as usize;
-    }
-    c
 }
 
 // How far the rows of the first tree are parts of values.
@@ -491,15 +440,14 @@ fn value_rows(rows: &[u8]) -> Span
 {
     let mut owed: usize = 1;
     let mut i: usize = 0;
+    // A while: how many rows there are shows as they are read.
     while 0 < owed {
         let row = layout::row_at(rows, i);
-        let k = row.kind;
-        if is_part(k) {
-            owed = owed - 1 + parts_below(k, row.n);
-            i += 1;
-        } else {
+        if !is_part(row.kind) {
             return Span::Part(i);
         }
+        owed = owed - 1 + parts_below(row.kind, row.n);
+        i += 1;
     }
     Span::Whole(i)
 }
@@ -517,41 +465,30 @@ fn value_here(right: &[u8], s: Stand, far: usize) -> Span
         return Span::Part(far);
     }
     if made_of_values(right[layout::TERM_ROW * r]) {
-        let x = value_rows(&right[layout::TERM_ROW * r..]);
-        match x {
-            Span::Whole(n) => {
-                return Span::Whole(n);
-            }
-            Span::Part(n) => {
-                return Span::Part(r + n);
-            }
-        }
+        return match value_rows(&right[layout::TERM_ROW * r..]) {
+            Span::Whole(n) => Span::Whole(n),
+            Span::Part(n) => Span::Part(r + n),
+        };
     }
     Span::Part(far)
 }
 
 // Whether the row at the search stands in a frame and is a value: its own rule stays.
+#[tactic(auto, using(crate::proofs::Ors::ors))]
 fn rests_here(right: &[u8], s: Stand) -> bool
     requires { (s.r < row_count right.now) × (row_count right.now ≤ 4096) }
     ensures { result ≡ (ltb 0 s.d ∧ᵇ member (kind_at right.now s.r) value_kinds) }
 {
-    let r = s.r;
-    if s.d == 0 {
-        return false;
-    }
-    plain(right[layout::TERM_ROW * r])
+    0 < s.d && plain(right[layout::TERM_ROW * s.r])
 }
 
 // Whether the innermost frame stands in another one and is made of values: its own rule stays.
+#[tactic(auto, using(crate::proofs::Ors::ors))]
 fn rests_at_end(left: &[u8], frames: &[u32], s: Stand) -> bool
     requires { (s.d ≤ 4096) × (s.d ≤ length frames.now) × (8 * row_in (get_or frames.now (s.d - 1) 0) + 8 ≤ length left.now) }
     ensures { result ≡ (ltb 1 s.d ∧ᵇ member (kind_at left.now (row_in (get_or frames.now (s.d - 1) 0))) made_of_values) }
 {
-    let d = s.d;
-    if d < 2 {
-        return false;
-    }
-    builds(left, frames, d - 1)
+    1 < s.d && builds(left, frames, s.d - 1)
 }
 
 // Whether the row at row r calls a foreign function, and its first argument calls one too.
@@ -562,19 +499,19 @@ fn nested(right: &[u8], r: usize) -> bool
     if right.len() / layout::TERM_ROW <= r + 3 {
         return false;
     }
-    if right[layout::TERM_ROW * r] != 8 {
+    if right[layout::TERM_ROW * r] != Kind::Apply.number() {
         return false;
     }
     if right[layout::TERM_ROW * r + 1] == 0 {
         return false;
     }
-    if right[layout::TERM_ROW * (r + 1)] != 7 {
+    if right[layout::TERM_ROW * (r + 1)] != Kind::Foreign.number() {
         return false;
     }
-    if right[layout::TERM_ROW * (r + 2)] != 8 {
+    if right[layout::TERM_ROW * (r + 2)] != Kind::Apply.number() {
         return false;
     }
-    right[layout::TERM_ROW * (r + 3)] == 7
+    right[layout::TERM_ROW * (r + 3)] == Kind::Foreign.number()
 }
 
 // Calls, each the first argument of the one before, are entered but for the last, and their functions passed.
@@ -583,6 +520,7 @@ fn enter_calls(left: &mut [u8], right: &[u8], frames: &mut [u32], start: Stand) 
     ensures { Delves left.old left.new right.now frames.old frames.new start result }
 {
     let mut s = start;
+    // A while: each call is found where the one before it leads.
     while nested(right, s.r) {
         s = enter(left, right, frames, s);
         s = pass_rows(left, right, frames, s, true, 1);
@@ -599,30 +537,19 @@ pub fn seek(left: &mut [u8], right: &[u8], frames: &mut [u32], start: Stand) -> 
     let mut s = start;
     let mut far: usize = 0;
     loop {
-        let x = look_ahead(left, right, frames, s);
-        match x {
+        match look_ahead(left, right, frames, s) {
             Sight::Done => {
                 if rests_at_end(left, frames, s) {
                     s = leave(left, frames, s);
                 } else {
-                    return Stand {
-                        l: s.l,
-                        r: s.r,
-                        d: s.d,
-                        here: false,
-                    };
+                    return Stand { here: false, ..s };
                 }
             }
             Sight::Here => {
                 if rests_here(right, s) {
                     s = pass_by(left, right, frames, s);
                 } else {
-                    return Stand {
-                        l: s.l,
-                        r: s.r,
-                        d: s.d,
-                        here: true,
-                    };
+                    return Stand { here: true, ..s };
                 }
             }
             Sight::Skip => {
@@ -630,8 +557,7 @@ pub fn seek(left: &mut [u8], right: &[u8], frames: &mut [u32], start: Stand) -> 
             }
             Sight::Enter => {
                 s = enter_calls(left, right, frames, s);
-                let v = value_here(right, s, far);
-                match v {
+                match value_here(right, s, far) {
                     Span::Whole(n) => {
                         let fine = wants_here(left, right, frames, s);
                         s = pass_rows(left, right, frames, s, fine, n);

@@ -3,3 +3,4 @@ pub mod Trees
 pub mod Copies
 pub mod Verdicts
 pub mod Records
+pub mod Rules

@@ -8,17 +8,17 @@ use lib.ListN.{length, take, drop, length-drop, length-map, drop_of_length-le}
 use lib.Seq.{take_at, take-take, drop_at, drop-drop, length-take-le}
 use Rattle.meaning.specs.Bytes.{writes, term_row, rows_at}
 use Rattle.meaning.specs.Terms.{flat, size, raw}
-use Rattle.meaning.specs.Records.{State, Entry, record_of, type_count, row_count, next_number, rows_in, state_of, sound}
+use Rattle.meaning.specs.Records.{State, Entry, record_of, row_count, next_number, types_in, rows_in, state_of, sound}
 use Rattle.meaning.specs.Entries.{stepped, reply_number, reply_tree, without, replied_state}
 use Rattle.meaning.proofs.Trees.Parse.{length-flat}
 use Rattle.meaning.proofs.Bytes.Layouts.{AllBytes}
 use Rattle.meaning.proofs.Bytes.Records.{Small, Good, good-state, record-state, tree-rows}
 use Rattle.meaning.proofs.Entries.Replying.{accepted-reply, reply-tree}
 use Rattle.layout.specs.declared.Limits.{Limits}
-use Rattle.layout.specs.Rows.{board, type_table, row_table}
+use Rattle.layout.specs.Rows.{board, row_table}
 use Rattle.layout.proofs.Tables.{row-table-length, row-table-cut}
 use Rattle.sound.specs.Ready.{Ready}
-use Rattle.sound.proofs.Parts.{sizes, types-table, rows-table}
+use Rattle.sound.proofs.Parts.{sizes}
 use Rattle.keep.specs.Keep.{Roomy, Holding, recalled}
 use Rattle.keep.proofs.Renewing.{rows_replaced}
 use Rattle.settle.specs.Settled.{settled, settled_in, Taken, Fitting}
@@ -31,12 +31,12 @@ small-board m b r h = let z = sizes m b r in record { types = omega arith; rows 
 
 -- the parts that are lent, as the state has them
 module _ (m : Limits) (b : List ℕ) (r : Ready m b) (ok : sound (board m) b ≡ true) (last : m.last ≤ 65535) (bb : AllBytes b) where
-  pub lent-types : (n : ℕ) → n ≡ type_count b → type_table (take (20 + 36 * n - 20) (drop 20 b)) ≡ (state_of (board m) b).types
+  pub lent-types : (types : List (List ℕ)) → types ≡ types_in b → types ≡ (state_of (board m) b).types
   unfolding state_of
-  lent-types n e = types-table m b (sizes m b r) n e
+  lent-types types e = e
 
-  pub lent_rows : (p n : ℕ) → p ≡ rows_at (board m) → n ≡ row_count b → row_table (take (p + 8 * n - p) (drop p b)) ≡ map raw (flat (state_of (board m) b).tree)
-  lent_rows p n pe ne = rows-table m b (sizes m b r) p n pe ne ∙ sym (tree-rows (board m) b (small-board m b r last) r.long bb ok).0
+  pub lent_rows : (rows : List ℕ) → row_table rows ≡ rows_in (board m) b → row_table rows ≡ map raw (flat (state_of (board m) b).tree)
+  lent_rows rows e = e ∙ sym (tree-rows (board m) b (small-board m b r last) r.long bb ok).0
 
 -- the state of a sound record
 module _ (m : Limits) (b answer : List ℕ) (t : Taken m b answer) (bb : AllBytes b) where

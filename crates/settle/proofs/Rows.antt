@@ -8,10 +8,12 @@ use native.Mathlib.Numerals.{add-one}
 use borrow.Author.Tests.{eq-eqb, ne_eqb}
 use lib.Dec.{eqb}
 use lib.ListN.{length, get_or, take, drop, length-append, take-append-drop}
-use lib.Seq.{drop-cons, take-suc, take_all}
+use lib.Seq.{take-suc, take_all}
 use Rattle.meaning.specs.Bytes.{◌∧ᵇ◌}
 use Rattle.meaning.specs.Terms.{kind_no, word_no}
-use Rattle.settle.specs.Settled.{is_due, settled}
+use Rattle.std.specs.Prelude.{Option, None, Some, unwrap_or}
+use Rattle.meaning.specs.Records.{first_not}
+use Rattle.settle.specs.Settled.{is_due, settled, Stands}
 
 -- a row's test by its kind and its word
 pub other-kind : (k : ℕ) (r : List ℕ) → (kind_no r ≡ 9 → ⊥) → is_due k r ≡ false
@@ -55,15 +57,6 @@ module _ (k : ℕ) (vs : List (List ℕ)) where
     pub count-other : (t : ℕ) → is_due k r ≡ false → t ≡ length (settled k vs (take i l)) → t + 1 ≡ length (settled k vs (take (i + 1) l))
     count-other t e g = sym (ap length (more-other e) ∙ length-append (settled k vs (take i l)) (r ∷ []) ∙ rw g refl)
 
-    -- the rows before the first
-    pub stand-more : is_due k r ≡ false → settled k vs l ≡ take i l ++ settled k vs (drop i l) → settled k vs l ≡ take (i + 1) l ++ settled k vs (drop (i + 1) l)
-    stand-more e f =
-        let g : drop i l ≡ (r ∷ []) ++ drop (i + 1) l = rw (add-one, drop-cons l i d, q) refl in
-        f
-        ∙ ap (λ (x : List (List ℕ)). take i l ++ x) (ap (settled k vs) g ∙ settled-append (r ∷ []) (drop (i + 1) l) ∙ ap (λ (x : List (List ℕ)). x ++ settled k vs (drop (i + 1) l)) (one-other r e))
-        ∙ sym (append_assoc (take i l) (r ∷ []) (settled k vs (drop (i + 1) l)))
-        ∙ ap (λ (x : List (List ℕ)). x ++ settled k vs (drop (i + 1) l)) (sym one_more)
-
   pub all-rows : (l : List (List ℕ)) (i : ℕ) → length l ≤ i → settled k vs (take i l) ≡ settled k vs l
   all-rows l i h = ap (settled k vs) (take_all i l h)
 
@@ -88,5 +81,22 @@ module _ (k : ℕ) (vs : List (List ℕ)) where
       ap length (ap (settled k vs) (sym (take-append-drop i l)) ∙ settled-append (take i l) (drop i l)) ∙ length-append (settled k vs (take i l)) (settled k vs (drop i l)) in
       omega arith
 
-pub stand-first : (k : ℕ) (l : List (List ℕ)) (vs : List (List ℕ)) → settled k vs l ≡ take 0 l ++ settled k vs (drop 0 l)
-stand-first k l vs = refl
+-- the first future, found by the test that other rows pass
+unfoldable pub undue : ℕ → List ℕ → Bool
+undue k r = cond (is_due k r) false true
+
+pub first-stands : (k : ℕ) (l : List (List ℕ)) → Stands k l (unwrap_or (first_not (undue k) l) (length l))
+unfolding first_not settled undue
+first-stands k [] = record { within = omega arith; same = λ vs. refl }
+first-stands k (r ∷ l) = go (is_due k r) refl (first-stands k l)
+  where
+    after : Option ℕ → Option ℕ
+    after o = elim o [ None ↦ None | Some i ↦ Some (suc i) ]
+
+    on : (o : Option ℕ) → is_due k r ≡ false → Stands k l (unwrap_or o (length l)) → Stands k (r ∷ l) (unwrap_or (after o) (suc (length l)))
+    on None e s = record { within = omega (arith, s.within); same = λ vs. rw e (ap (λ (x : List (List ℕ)). r ∷ x) (s.same vs)) }
+    on (Some i) e s = record { within = omega (arith, s.within); same = λ vs. rw e (ap (λ (x : List (List ℕ)). r ∷ x) (s.same vs)) }
+
+    go : (b : Bool) → is_due k r ≡ b → Stands k l (unwrap_or (first_not (undue k) l) (length l)) → Stands k (r ∷ l) (unwrap_or (cond (cond b false true) (after (first_not (undue k) l)) (Some 0)) (suc (length l)))
+    go true e s = record { within = omega arith; same = λ vs. refl }
+    go false e s = on (first_not (undue k) l) e s

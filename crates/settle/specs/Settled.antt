@@ -1,17 +1,15 @@
 -- Rows with a reply's rows for each future of its number, and what is asked before a reply is taken. Assumes nothing.
 use Rattle.std.specs.Prelude.{ℕ, ◌≤◌, ◌*◌, ◌/◌, ◌≡◌, Bool, true, cond, List, [], ◌∷◌, ◌++◌, eqb, leb, length, take, drop, replicate}
-use Rattle.std.proofs.Math.Option.{none}
 use Rattle.meaning.specs.Bytes.{◌∧ᵇ◌, writes, term_row}
 use Rattle.meaning.specs.Types.{form_of}
 use Rattle.meaning.specs.Terms.{ty_of, kind_no, word_no, shape, tree_of}
-use Rattle.meaning.specs.Typing.{stop}
 use Rattle.meaning.specs.Records.{state_of, version, first_not, sound}
 use Rattle.meaning.specs.Entries.{require, refuse, refuse_shape, reply_kind, reply_bad, reply_verdict}
-use Rattle.meaning.specs.declared.Verdict.{Verdict}
-use Rattle.meaning.specs.declared.Verdict.TheVariants.{Accepted}
+use Rattle.meaning.specs.Answers.{Verdict}
+use Rattle.std.specs.Prelude.{Ok}
 use Rattle.meaning.specs.declared.Refusal.TheVariants.{ReplyRow, ReplyKind, ReplyTyping, ReplyRoom}
 use Rattle.layout.specs.declared.Limits.{Limits}
-use Rattle.layout.specs.Rows.{board, type_table, row_table, term_rows}
+use Rattle.layout.specs.Rows.{board, row_table, term_rows}
 use Rattle.sound.specs.Ready.{Ready}
 
 -- a future of number k
@@ -29,25 +27,25 @@ pub record Stands (k : ℕ) (rows : List (List ℕ)) (n : ℕ) : Type 0 where
   pub same : (vs : List (List ℕ)) → settled k vs rows ≡ take n rows ++ settled k vs (drop n rows)
 
 -- refusals 13 to 16, on the types, the term's rows and the reply's rows
-unfoldable pub rows_verdict : List ℕ → List ℕ → List ℕ → ℕ → ℕ → ℕ → Verdict
+unfoldable pub rows_verdict : List (List ℕ) → List ℕ → List ℕ → ℕ → ℕ → ℕ → Verdict
 rows_verdict types rows value k ty room =
-    refuse_shape (shape version (length (type_table types)) (row_table value)) ReplyRow
+    refuse_shape (shape version (length types) (row_table value)) ReplyRow
     (refuse (first_not reply_kind (row_table value)) ReplyKind
-    (refuse (reply_bad (form_of (type_table types)) ty (tree_of (term_rows value))) ReplyTyping
-    (require (leb (length (settled k (row_table value) (row_table rows))) room) ReplyRoom Accepted)))
+    (refuse (reply_bad (form_of types) ty (tree_of (term_rows value))) ReplyTyping
+    (require (leb (length (settled k (row_table value) (row_table rows))) room) ReplyRoom (Ok tt))))
 
 -- refusals 14 to 16 where the reply's rows are whole and well typed
 unfoldable pub good_verdict : List ℕ → List ℕ → ℕ → ℕ → ℕ → Verdict
 good_verdict rows value k ty room =
     refuse (first_not reply_kind (row_table value)) ReplyKind
-    (refuse (stop (eqb (ty_of (tree_of (term_rows value))) ty) none) ReplyTyping
-    (require (leb (length (settled k (row_table value) (row_table rows))) room) ReplyRoom Accepted))
+    (require (eqb (ty_of (tree_of (term_rows value))) ty) (ReplyTyping 0)
+    (require (leb (length (settled k (row_table value) (row_table rows))) room) ReplyRoom (Ok tt)))
 
 -- a sound record and a reply that is accepted
 pub record Taken (m : Limits) (kept answer : List ℕ) : Type 0 where
   pub ready : Ready m kept
   pub is-sound : sound (board m) kept ≡ true
-  pub accepted : reply_verdict (board m) (state_of (board m) kept) answer ≡ Accepted
+  pub accepted : reply_verdict (board m) (state_of (board m) kept) answer ≡ Ok tt
   pub numbers : m.last ≤ 65535
 
 -- Settling in place ----------------------------------------------------------------------------------------------

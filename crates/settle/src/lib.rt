@@ -1,6 +1,7 @@
 // A reply taken: its rows for each future of its number, its entry out of the open list, the record written anew from the changed row on.
 #![tactic(auto)]
 
+use layout::kinds::Kind;
 use layout::{Limits, Row};
 
 pub mod verdict;
@@ -13,37 +14,34 @@ ghost use Rattle.layout.specs.Rows.{board, numbers, row_table};
 ghost use Rattle.settle.specs.Settled.{is_due, settled, Stands, Taken, Fitting, Settles};
 
 // A row is a future of the number.
+#[tactic(auto, using(crate::proofs::Rules::is_due_laws))]
 fn is_due(r: Row, number: u32) -> bool
     ensures { result ≡ is_due number (numbers r) }
 {
-    if r.kind != 9 {
-        return false;
-    }
-    r.word == number
+    r.is(Kind::Future) && r.word == number
 }
 
-// How many rows there are once the reply's rows stand for each future of the number, counted.
+// How many rows there are once the reply's rows stand for each future of the number, counted. Apart from the two walks below: one writes all rows, one
+// the futures' places only, and a closure for what each does would be as long as its loop.
+#[tactic(auto, using(crate::proofs::Rules::count_after_laws))]
 fn count_after(rows: &[u8], value: &[u8], number: u32) -> usize
     requires { (length rows.now ≤ 16384) × (length value.now ≤ 2048) }
     ensures { result ≡ length (settled number (row_table value.now) (row_table rows.now)) }
 {
-    let all = layout::term_rows(rows);
     let more = layout::term_rows(value);
-    let mut total: usize = 0;
-    let mut i = 0;
-    while i < all {
+    let mut total = 0;
+    for i in 0..layout::term_rows(rows) {
         if is_due(layout::row_at(rows, i), number) {
             total += more;
-            i += 1;
         } else {
             total += 1;
-            i += 1;
         }
     }
     total
 }
 
 // The same. A reply of one row changes no count.
+#[tactic(auto, using(crate::proofs::Rules::rows_after_laws))]
 pub fn rows_after(rows: &[u8], value: &[u8], number: u32) -> usize
     requires { (length rows.now ≤ 16384) × (length value.now ≤ 2048) }
     ensures { result ≡ length (settled number (row_table value.now) (row_table rows.now)) }
@@ -56,62 +54,53 @@ pub fn rows_after(rows: &[u8], value: &[u8], number: u32) -> usize
 
 // The first row that is a future of the number, or how many rows there are.
 fn first_due(rows: &[u8], number: u32) -> usize
+    requires { length rows.now ≤ 32768 }
     ensures { Stands number (row_table rows.now) result }
 {
-    let all = layout::term_rows(rows);
-    let mut i = 0;
-    while i < all {
-        if is_due(layout::row_at(rows, i), number) {
-            return i;
-        }
-        i += 1;
+    match layout::first_failing(rows, |r| !is_due(r, number)) {
+        Some(i) => i as usize,
+        None => layout::term_rows(rows),
     }
-    all
 }
 
 // The rows go to the work buffer, with the reply's rows for each future of the number; how many bytes they are.
+#[tactic(auto, using(crate::proofs::Rules::settle_rows_laws))]
 fn settle_rows(work: &mut [u8], rows: &[u8], value: &[u8], number: u32) -> usize
     requires { (8 * length (settled number (row_table value.now) (row_table rows.now)) ≤ length work.old) × (length value.now ≡ 8 * (length value.now / 8)) }
     ensures { (result ≡ 8 * length (settled number (row_table value.now) (row_table rows.now))) × (work.new ≡ writes term_row (settled number (row_table value.now) (row_table rows.now)) ++ drop result work.old) }
 {
-    let all = layout::term_rows(rows);
-    let mut out: usize = 0;
-    let mut i = 0;
-    while i < all {
+    let mut out = 0;
+    for i in 0..layout::term_rows(rows) {
         if is_due(layout::row_at(rows, i), number) {
             layout::copy_to(work, out, value, 0, value.len());
             out += value.len();
-            i += 1;
         } else {
             layout::copy_row(work, out, rows, layout::TERM_ROW * i);
             out += layout::TERM_ROW;
-            i += 1;
         }
     }
     out
 }
 
 // A reply of one row comes to stand in the place of each future of the number.
+#[tactic(auto, using(crate::proofs::Rules::settle_each_laws))]
 fn settle_each(rows: &mut [u8], value: &[u8], number: u32)
     requires { (length rows.old ≡ 8 * (length rows.old / 8)) × (length value.now ≡ 8) }
     ensures { rows.new ≡ writes term_row (settled number (row_table value.now) (row_table rows.old)) }
 {
-    let all = layout::term_rows(rows);
-    let mut i = 0;
-    while i < all {
+    for i in 0..layout::term_rows(rows) {
         if is_due(layout::row_at(rows, i), number) {
             layout::copy_row(rows, layout::TERM_ROW * i, value, 0);
-            i += 1;
-        } else {
-            i += 1;
         }
     }
 }
 
 // The term in a record's row space, `used` bytes of it, settled by way of the work buffer, which is cleared: the tail from the first
 // future on is lent to the copying function. How many rows the term has.
+#[tactic(auto, using(crate::proofs::Rules::settle_term_laws))]
 fn settle_term(space: &mut [u8], used: usize, work: &mut [u8], value: &[u8], number: u32) -> usize
-    requires { Fitting space.old used work.old value.now number }
+    requires fitting { Fitting space.old used work.old value.now number }
+    requires few { used ≤ 32768 }
     ensures { Settles space.old used work.old value.now number result space.new work.new }
 {
     let first = first_due(&space[..used], number);
@@ -125,6 +114,7 @@ fn settle_term(space: &mut [u8], used: usize, work: &mut [u8], value: &[u8], num
 
 // The term of an accepted reply's record, and a work buffer of zeros. A reply of one row goes to its places at once: it changes no count, and
 // nothing behind the rows.
+#[tactic(auto, using(crate::proofs::Rules::replace_term_laws))]
 fn replace_term(kept: &mut [u8], work: &mut [u8], answer: &[u8], m: Limits)
     requires { (Taken m kept.old answer.now) × (8 * m.rows ≤ length work.old) }
     ensures { (kept.new ≡ record_of (board m) (stepped (state_of (board m) kept.old) (replied_state (state_of (board m) kept.old) answer.now).tree)) × (work.new ≡ replicate (length work.old) 0) }
@@ -144,6 +134,7 @@ fn replace_term(kept: &mut [u8], work: &mut [u8], answer: &[u8], m: Limits)
 }
 
 // An accepted reply's record, and a work buffer of zeros.
+#[tactic(auto, using(crate::proofs::Rules::settle_laws))]
 pub fn settle(kept: &mut [u8], work: &mut [u8], answer: &[u8], m: Limits)
     requires { (Taken m kept.old answer.now) × (8 * m.rows ≤ length work.old) }
     ensures { (kept.new ≡ record_of (board m) (replied_state (state_of (board m) kept.old) answer.now)) × (work.new ≡ replicate (length work.old) 0) }

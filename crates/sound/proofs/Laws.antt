@@ -3,7 +3,7 @@ use Prim.Native.Nat.{ℕ, zero, suc, ◌+◌, ◌*◌, ◌-◌, ◌<◌, ◌≤�
 use mathlib.Core.Path.{◌≡◌, refl, ap, sym, ◌∙◌}
 use mathlib.Core.Bool.{Bool, true, false, cond}
 use mathlib.Core.List.{List, [], ◌∷◌, ◌++◌}
-use mathlib.Core.Option.{Option, none, some}
+use Rattle.std.specs.Prelude.{Option, None, Some}
 use native.Mathlib.Omega.{arith}
 use native.Mathlib.Numerals.{add-one}
 use borrow.Author.Tests.{eqb-false, not-true, eq-eqb, ne_eqb}
@@ -27,10 +27,10 @@ pub passes : (a b : Bool) → a ≡ true → (a ∧ᵇ b) ≡ b
 unfolding ◌∧ᵇ◌
 passes a b e = rw e refl
 
-pub some-there : (o : Option ℕ) → (o ≡ none → ⊥) → false ≡ nothing o
+pub some-there : (o : Option ℕ) → (o ≡ None → ⊥) → false ≡ nothing o
 unfolding nothing
-some-there none n = absurd (n refl)
-some-there (some i) n = refl
+some-there None n = absurd (n refl)
+some-there (Some i) n = refl
 
 -- A test of every element ----------------------------------------------------------------------------------------
 
@@ -39,9 +39,9 @@ module _ {A : Type 0} (p : A → Bool) where
   unfolding nothing first_not ◌∧ᵇ◌
   every_more x xs = go (p x) (first_not p xs)
     where
-      go : (b : Bool) (o : Option ℕ) → nothing (cond b (elim o [ none ↦ none | some i ↦ some (suc i) ]) (some 0)) ≡ (b ∧ᵇ nothing o)
-      go true none = refl
-      go true (some i) = refl
+      go : (b : Bool) (o : Option ℕ) → nothing (cond b (elim o [ None ↦ None | Some i ↦ Some (suc i) ]) (Some 0)) ≡ (b ∧ᵇ nothing o)
+      go true None = refl
+      go true (Some i) = refl
       go false o = refl
 
   module _ (l : List A) (i : ℕ) where

@@ -3,7 +3,7 @@ use Prim.Native.Nat.{ℕ, ◌+◌, ◌*◌, ◌-◌, ◌/◌, ◌≤◌, ◌<◌
 use mathlib.Core.Path.{◌≡◌, refl, ap, sym, ◌∙◌}
 use mathlib.Core.Bool.{Bool, true, false, false≢true}
 use mathlib.Core.List.{List, [], ◌∷◌, map}
-use mathlib.Core.Option.{Option, none, some}
+use Rattle.std.specs.Prelude.{Option, None, Some, is_some, is_ok, not}
 use native.Mathlib.Omega.{arith}
 use native.Mathlib.Nat.{mul-sub}
 use borrow.Author.Tests.{leb-true, eq-eqb, ne_eqb, lt-ltb, le-ltb}
@@ -11,13 +11,13 @@ use lib.Dec.{eqb}
 use lib.ListN.{length, get_or, take, drop, length-drop, length-map, get_or-map}
 use lib.Seq.{length-take-le}
 use Rattle.meaning.specs.Bytes.{◌∧ᵇ◌, Layout, width, zeros, number, read, reads, type_row, term_row, entry_row, types_at, calls_at, rows_at, record_bytes}
-use Rattle.meaning.specs.Types.{Form, form_of, ground, bad_type, empty}
+use Rattle.meaning.specs.Types.{Form, form_of, ground, empty}
 use Rattle.meaning.specs.Terms.{ty_of, tree_of, trees, top, row_of, type_no, shape}
 use Rattle.meaning.specs.Typing.{first_bad}
-use Rattle.meaning.specs.Records.{Entry, head_no, type_count, row_count, open_count, next_number, program_type, types_in, entries_in, rows_in, entry_of, state_of, first_not, nothing, is_whole, head_sound, unused, space_sound, types_sound, shape_sound, term_sound, rises, entry_sound, calls_sound, listed, future_listed, futures_sound, program_sound, sound}
+use Rattle.meaning.specs.Records.{head_no, type_count, row_count, open_count, types_in, entries_in, rows_in, entry_of, state_of, first_not, nothing, is_whole, head_sound, unused, space_sound, types_sound, shape_sound, term_sound, rises, entry_sound, calls_sound, listed, futures_sound, program_sound, sound}
 use Rattle.meaning.specs.Entries.{no_future}
-use Rattle.meaning.specs.declared.Shape.{Shape}
-use Rattle.meaning.specs.declared.Shape.TheVariants.{Whole, Bad}
+use Rattle.meaning.specs.Terms.{Shape}
+use Rattle.std.specs.Prelude.{Result, Ok, Err}
 use Rattle.meaning.proofs.Trees.Tests.{left, right, within-if}
 use Rattle.meaning.proofs.Bytes.Layouts.{length-reads, reads_at}
 use Rattle.layout.specs.declared.Limits.{Limits}
@@ -28,8 +28,9 @@ use Rattle.open.proofs.Listing.{rises-on, rises-not, rises-out, listed-on, liste
 use Rattle.open.proofs.Stored.{entry_read}
 use Rattle.terms.specs.Tables.{Closed}
 use Rattle.terms.proofs.Scan.{bytes-closed}
-use Rattle.sound.specs.Ready.{Ready, entry_table, call_table, others_sound, rest_sound}
-use Rattle.sound.proofs.Laws.{fails, passes, none-to-list}
+use Rattle.sound.specs.Ready.{Ready, ShowsRows, entry_table, call_table, others_sound, rest_sound}
+use Rattle.quick.specs.Dues.{Shows}
+use Rattle.sound.proofs.Laws.{fails, passes, some-there, none-to-list}
 
 -- where the parts of a record begin, and how much of each is in use
 pub record Sizes (m : Limits) (b : List ℕ) : Type 0 where
@@ -91,10 +92,10 @@ unfolding tree_of trees top ty_of row_of
 top-type [] h = absurd (omega arith)
 top-type (r ∷ rs) h = refl
 
-whole-if : (s : Shape) → is_whole s ≡ true → s ≡ Whole
+whole-if : (s : Shape) → is_whole s ≡ true → s ≡ Ok tt
 unfolding is_whole
-whole-if Whole w = refl
-whole-if (Bad f i) w = absurd (false≢true w)
+whole-if (Ok tt) w = refl
+whole-if (Err (f, i)) w = absurd (false≢true w)
 
 -- an entry's test, field by field
 module _ (form : ℕ → Form) (next p : ℕ) (s : List ℕ) (x : ℕ) (xe : x ≡ number 4 (drop p s)) where
@@ -149,15 +150,24 @@ module _ (s : List ℕ) where
     pub call-other : (k : ℕ) → (x ≡ k → ⊥) → listed (drop i (call_table s)) k ≡ listed (drop (i + 1) (call_table s)) k
     call-other k n = listed-on (call_table s) k i _ _ call-there (call_at _ refl) n
 
-    pub call-found : (k t : ℕ) → x ≡ k → t ≡ number 2 (drop (8 * i + 4) s) → listed (drop i (call_table s)) k ≡ some t
+    pub call-found : (k t : ℕ) → x ≡ k → t ≡ number 2 (drop (8 * i + 4) s) → listed (drop i (call_table s)) k ≡ Some t
     call-found k t e te = listed-hit (call_table s) k i _ _ call-there (call_at t te) e
 
   module _ (i : ℕ) (h : length s / 8 ≤ i) where
     pub calls-risen : (low : ℕ) → rises low (drop i (call_table s)) ≡ true
     calls-risen low = rises-out (call_table s) low i (omega (arith, call-count))
 
-    pub calls-out : (k : ℕ) → listed (drop i (call_table s)) k ≡ none
+    pub calls-out : (k : ℕ) → listed (drop i (call_table s)) k ≡ None
     calls-out k = listed-out (call_table s) k i (omega (arith, call-count))
+
+-- the types cut from a record
+module _ (b : List ℕ) (n : ℕ) (e : n ≡ type_count b) (h : 20 + 36 * n ≤ length b) where
+  pub types-length : length (take (20 + 36 * n - 20) (drop 20 b)) ≡ 36 * n
+  types-length = length-take-le (20 + 36 * n - 20) (drop 20 b) (rw length-drop (omega arith)) ∙ omega arith
+
+  pub types-table : type_table (take (20 + 36 * n - 20) (drop 20 b)) ≡ types_in b
+  unfolding types_in width
+  types-table = rw (← e) (type-table-cut b 20 n (20 + 36 * n - 20) (omega arith) (omega arith))
 
 module _ (m : Limits) (b : List ℕ) (z : Sizes m b) where
   -- Unused space -------------------------------------------------------------------------------------------------
@@ -176,14 +186,6 @@ module _ (m : Limits) (b : List ℕ) (z : Sizes m b) where
     rows-zero e = unused-is term_row (rows_at (board m)) (row_count b) m.rows (q + 8 * n) (length b) b (omega arith) (omega (arith, z.rows-from, z.long))
 
   -- Tables -------------------------------------------------------------------------------------------------------
-
-  module _ (n : ℕ) (e : n ≡ type_count b) where
-    pub types-length : length (take (20 + 36 * n - 20) (drop 20 b)) ≡ 36 * n
-    types-length = length-take-le (20 + 36 * n - 20) (drop 20 b) (rw length-drop (omega (arith, z.types, z.long))) ∙ omega arith
-
-    pub types-table : type_table (take (20 + 36 * n - 20) (drop 20 b)) ≡ types_in b
-    unfolding types_in width
-    types-table = rw (← e) (type-table-cut b 20 n (20 + 36 * n - 20) (omega arith) (omega (arith, z.types, z.long)))
 
   module _ (p n : ℕ) (pe : p ≡ rows_at (board m)) (e : n ≡ row_count b) where
     pub rows-table : row_table (take (p + 8 * n - p) (drop p b)) ≡ rows_in (board m) b
@@ -206,43 +208,6 @@ module _ (m : Limits) (b : List ℕ) (z : Sizes m b) where
         let k : length (take (p + 8 * n - p) (drop p b)) / 8 ≡ n = omega (arith, length-take-le (p + 8 * n - p) (drop p b) g) in
         rw (k, ← pe, ← e) (reads-cut entry_row n (p + 8 * n - p) (drop p b) (omega arith) g)
 
-    -- the open calls cut from the record
-    pub calls_table : call_table (take (p + 8 * n - p) (drop p b)) ≡ (state_of (board m) b).calls
-    unfolding state_of
-    calls_table = ap (map entry_of) entries-table
-
-  -- The tests ----------------------------------------------------------------------------------------------------
-
-  pub types-told : (n v : ℕ) (o : Option ℕ) → n ≡ type_count b → v ≡ head_no 3 b → o ≡ bad_type v (type_table (take (20 + 36 * n - 20) (drop 20 b))) → nothing o ≡ types_sound b
-  unfolding types_sound
-  types-told n v o e f g = ap nothing (g ∙ rw (f, types-table n e) refl)
-
-  pub shape-told : (p n t v : ℕ) (s : Shape) → p ≡ rows_at (board m) → n ≡ row_count b → t ≡ type_count b → v ≡ head_no 3 b → s ≡ shape v t (row_table (take (p + 8 * n - p) (drop p b))) → is_whole s ≡ shape_sound (board m) b
-  unfolding shape_sound
-  shape-told p n t v s pe e f g h = ap is_whole (h ∙ rw (f, g, rows-table p n pe e) refl)
-
-  -- an accepted shape is closed
-  pub shape-closed : (p n : ℕ) → p ≡ rows_at (board m) → n ≡ row_count b → shape_sound (board m) b ≡ true
-      → Closed (term_rows (take (p + 8 * n - p) (drop p b))) (length (take (p + 8 * n - p) (drop p b)) / 8)
-  unfolding shape_sound
-  shape-closed p n pe e w =
-      bytes-closed (head_no 3 b) (type_count b) (take (p + 8 * n - p) (drop p b)) (rw (rows-table p n pe e) (whole-if (shape (head_no 3 b) (type_count b) (rows_in (board m) b)) w))
-
-  pub term_told : (t p n : ℕ) (o : Option ℕ) → t ≡ type_count b → p ≡ rows_at (board m) → n ≡ row_count b
-      → o ≡ first_bad (form_of (type_table (take (20 + 36 * t - 20) (drop 20 b)))) empty (tree_of (term_rows (take (p + 8 * n - p) (drop p b)))) → nothing o ≡ term_sound (board m) b
-  unfolding term_sound state_of
-  term_told t p n o e pe f g = ap nothing (g ∙ rw (types-table t e, rows-table p n pe f) refl)
-
-  -- rows that are good, cut from the record
-  pub good-told : (t p n v : ℕ) → t ≡ type_count b → p ≡ rows_at (board m) → n ≡ row_count b → v ≡ head_no 3 b
-      → shape v (length (take (20 + 36 * t - 20) (drop 20 b)) / 36) (row_table (take (p + 8 * n - p) (drop p b))) ≡ Whole
-      → first_bad (form_of (type_table (take (20 + 36 * t - 20) (drop 20 b)))) empty (tree_of (term_rows (take (p + 8 * n - p) (drop p b)))) ≡ none
-      → (shape_sound (board m) b ≡ true) × (term_sound (board m) b ≡ true)
-  unfolding is_whole nothing
-  good-told t p n v e pe f g w o =
-      let c : length (take (20 + 36 * t - 20) (drop 20 b)) / 36 ≡ t = omega (arith, types-length t e) in
-      (sym (shape-told p n t v Whole pe f e g (sym (rw c at w))), sym (term_told t p n none e pe f (sym o)))
-
   pub calls_are : (state_of (board m) b).calls ≡ map entry_of (entries_in (board m) b)
   unfolding state_of
   calls_are = refl
@@ -250,36 +215,6 @@ module _ (m : Limits) (b : List ℕ) (z : Sizes m b) where
   pub call-total : length (state_of (board m) b).calls ≡ open_count b
   unfolding state_of entries_in
   call-total = length-map (reads entry_row (open_count b) (drop (calls_at (board m)) b)) entry_of ∙ length-reads entry_row (open_count b) (drop (calls_at (board m)) b)
-
-  pub calls-fall : (p n : ℕ) → p ≡ calls_at (board m) → n ≡ open_count b → rises 0 (call_table (take (p + 8 * n - p) (drop p b))) ≡ false → calls_sound (board m) b ≡ false
-  unfolding calls_sound
-  calls-fall p n pe f e = fails _ _ (rw (← calls_table p n pe f) e)
-
-  pub calls-told : (t p n next : ℕ) (a : Bool) → t ≡ type_count b → p ≡ calls_at (board m) → n ≡ open_count b → next ≡ next_number b
-      → rises 0 (call_table (take (p + 8 * n - p) (drop p b))) ≡ true
-      → a ≡ nothing (first_not (entry_sound (form_of (type_table (take (20 + 36 * t - 20) (drop 20 b)))) next) (entry_table (take (p + 8 * n - p) (drop p b)))) → a ≡ calls_sound (board m) b
-  unfolding calls_sound
-  calls-told t p n next a e pe f g r h = h ∙ rw (types-table t e, entries-table p n pe f, g) refl ∙ sym (passes _ _ (rw (← calls_table p n pe f) r))
-
-  pub futures-told : (p n : ℕ) (es : List Entry) (a : Bool) → p ≡ rows_at (board m) → n ≡ row_count b → es ≡ (state_of (board m) b).calls
-      → a ≡ nothing (first_not (future_listed es) (row_table (take (p + 8 * n - p) (drop p b)))) → a ≡ futures_sound (board m) b
-  unfolding futures_sound
-  futures-told p n es a pe e f h = h ∙ rw (rows-table p n pe e, f) refl
-
-  pub none_seen : (p n : ℕ) → p ≡ rows_at (board m) → n ≡ row_count b → first_not no_future (row_table (take (p + 8 * n - p) (drop p b))) ≡ none → futures_sound (board m) b ≡ true
-  unfolding nothing
-  none_seen p n pe e h = sym (futures-told p n (state_of (board m) b).calls true pe e refl (sym (none-to-list (state_of (board m) b).calls (row_table (take (p + 8 * n - p) (drop p b))) (ap nothing h))))
-
-  pub program-told : (p t q : ℕ) → p ≡ rows_at (board m) → t ≡ number 2 (drop (p + 2) b) → q ≡ program_type b → eqb t q ≡ program_sound (board m) b
-  unfolding program_sound state_of rows_in
-  program-told p t q pe e f =
-      let k : p + 8 * 0 ≡ p = omega arith in
-      let rs = reads term_row (row_count b) (drop p b) in
-      let h : ty_of (tree_of (map row_of rs)) ≡ t =
-      top-type rs (omega (arith, length-reads term_row (row_count b) (drop p b), z.rows-some))
-      ∙ ap type_no (term-rows-at (row_count b) 0 p b [] (omega (arith, z.rows-some)) ∙ ap (λ (x : ℕ). read term_row (drop x b)) k ∙ term-row p b)
-      ∙ sym e in
-      rw (← pe, h, ← f) refl
 
 -- The tests in order -------------------------------------------------------------------------------------------------
 
@@ -336,3 +271,62 @@ module _ (m : Limits) (b : List ℕ) where
     pub only-program : futures_sound (board m) b ≡ true → others_sound (board m) b ≡ program_sound (board m) b
     unfolding others_sound
     only-program e = passes _ _ k ∙ passes _ _ e
+
+-- the type that the first row states
+pub first_type : (rows : List ℕ) → 8 ≤ length rows → (t : ℕ) → t ≡ number 2 (drop 2 rows) → ty_of (tree_of (term_rows rows)) ≡ t
+first_type rows h t e =
+    let z = length-reads term_row (length rows / 8) rows in
+    top-type (row_table rows) (omega arith) ∙ ap type_no (term-rows-at (length rows / 8) 0 0 rows [] (omega arith)) ∙ ap type_no (term-row 0 rows) ∙ sym e
+
+-- The tests, on the parts ------------------------------------------------------------------------------------------
+
+pub none-nothing : (o : Option ℕ) (b : Bool) → is_some o ≡ not b → b ≡ nothing o
+unfolding nothing
+none-nothing None true e = refl
+none-nothing None false e = e
+none-nothing (Some i) true e = e
+none-nothing (Some i) false e = refl
+
+pub ok-whole : (s : Shape) → is_ok s ≡ is_whole s
+unfolding is_whole
+ok-whole (Ok tt) = refl
+ok-whole (Err (f, i)) = refl
+
+pub types-count : (b : List ℕ) → length (types_in b) ≡ type_count b
+unfolding types_in width
+types-count b = length-reads type_row (type_count b) (drop 20 b)
+
+module _ (m : Limits) (b rows : List ℕ) (re : row_table rows ≡ rows_in (board m) b) where
+  -- an accepted shape is closed
+  pub shape-closed : shape_sound (board m) b ≡ true → Closed (term_rows rows) (length rows / 8)
+  unfolding shape_sound
+  shape-closed w = bytes-closed (head_no 3 b) (type_count b) rows (rw re (whole-if (shape (head_no 3 b) (type_count b) (rows_in (board m) b)) w))
+
+  pub none_seen : first_not no_future (row_table rows) ≡ None → futures_sound (board m) b ≡ true
+  unfolding nothing futures_sound
+  none_seen h = rw (← re) (none-to-list (state_of (board m) b).calls (row_table rows) (ap nothing h))
+
+  pub program-told : 8 ≤ length rows → (t : ℕ) → t ≡ number 2 (drop 2 rows) → ty_of (state_of (board m) b).tree ≡ t
+  unfolding state_of
+  program-told h t e = rw (← re) (first_type rows h t e)
+
+  module _ (types : List (List ℕ)) (te : types ≡ types_in b) where
+    -- a row of a whole shape that fails
+    pub leaf-told : (Closed (term_rows rows) (length rows / 8) → first_bad (form_of types) empty (tree_of (term_rows rows)) ≡ None → ⊥) → rest_sound (board m) b ≡ false
+    unfolding term_sound state_of
+    leaf-told f = no_rows m b (λ s. sym (some-there _ (let g = f (shape-closed s) in rw (te, re) at g)))
+
+    -- rows that are good
+    pub good-told : (v : ℕ) → v ≡ head_no 3 b → shape v (length types) (row_table rows) ≡ Ok tt
+        → first_bad (form_of types) empty (tree_of (term_rows rows)) ≡ None → (shape_sound (board m) b ≡ true) × (term_sound (board m) b ≡ true)
+    unfolding shape_sound term_sound state_of is_whole nothing
+    good-told v e w o =
+        let c : length types ≡ type_count b = ap length te ∙ types-count b in
+        (ap is_whole (rw (c, e, re) at w), ap nothing (rw (te, re) at o))
+
+    -- what a quick check of them tells
+    pub rows_shown : (v : ℕ) → v ≡ head_no 3 b → (r : Result Bool ℕ) → Shows v types rows r → ShowsRows (board m) b r
+    rows_shown v e (Ok future) s =
+        let w = good-told v e s.whole s.typed in
+        record { shape = w.0; term = w.1; futures = λ z. none_seen (s.still z) }
+    rows_shown v e (Err i) s = record { shape = tt; term = tt; futures = tt }

@@ -1,10 +1,9 @@
 -- What is known of a record once its header has passed, and a table of list entries. Assumes nothing.
-use Rattle.std.specs.Prelude.{ℕ, suc, ◌≤◌, ◌/◌, ◌≡◌, Bool, true, false, List, map, eqb, leb, length}
+use Rattle.std.specs.Prelude.{ℕ, suc, ◌≤◌, ◌/◌, ◌≡◌, Bool, true, false, Result, OnOk, IfOk, List, map, eqb, leb, length}
 use Rattle.meaning.specs.Bytes.{Limits as Board, ◌∧ᵇ◌, within, record_bytes, reads, entry_row}
 use Rattle.meaning.specs.Records.{Entry, head_no, type_count, row_count, open_count, next_number, entry_of, head_sound, shape_sound, term_sound, calls_sound, futures_sound, program_sound}
 use Rattle.layout.specs.declared.Limits.{Limits}
 use Rattle.layout.specs.Rows.{board}
-use Rattle.quick.specs.declared.Seen.{Seen}
 
 -- a board that the arrays of the tests have room for
 pub record Roomy (m : Limits) : Type 0 where
@@ -18,10 +17,10 @@ pub record Ready (m : Limits) (kept : List ℕ) : Type 0 where
   pub head : head_sound (board m) kept ≡ true
 
 -- what a quick check tells of the rows of a record: where they are good, their shape and typing, and that no future is to be listed where none was seen
-pub record ShowsRows (m : Board) (b : List ℕ) (r : Seen) : Type 0 where
-  pub shape : r.good ≡ true → shape_sound m b ≡ true
-  pub term : r.good ≡ true → term_sound m b ≡ true
-  pub futures : r.good ≡ true → r.future ≡ false → futures_sound m b ≡ true
+pub record ShowsRows (m : Board) (b : List ℕ) (r : Result Bool ℕ) : Type 0 where
+  pub shape : OnOk r (shape_sound m b ≡ true)
+  pub term : OnOk r (term_sound m b ≡ true)
+  pub futures : IfOk r (λ future. future ≡ false → futures_sound m b ≡ true)
 
 -- the table that lent bytes are: 8 bytes an entry
 abbrev pub entry_table : List ℕ → List (List ℕ)

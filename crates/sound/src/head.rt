@@ -8,6 +8,7 @@ ghost use Rattle.sound.specs.Ready.{counts_fit};
 
 use layout::Limits;
 
+#[tactic(auto, using(crate::proofs::Rules::head_edition_laws))]
 pub fn edition(kept: &[u8]) -> u16
     requires { 20 ≤ length kept.now }
     ensures { result ≡ head_no 3 kept.now }
@@ -15,6 +16,7 @@ pub fn edition(kept: &[u8]) -> u16
     layout::u16_at(kept, layout::VERSION_AT)
 }
 
+#[tactic(auto, using(crate::proofs::Rules::head_type_count_laws))]
 pub fn type_count(kept: &[u8]) -> u16
     requires { 20 ≤ length kept.now }
     ensures { result ≡ type_count kept.now }
@@ -22,6 +24,7 @@ pub fn type_count(kept: &[u8]) -> u16
     layout::u16_at(kept, layout::TYPE_COUNT_AT)
 }
 
+#[tactic(auto, using(crate::proofs::Rules::head_row_count_laws))]
 pub fn row_count(kept: &[u8]) -> u16
     requires { 20 ≤ length kept.now }
     ensures { result ≡ row_count kept.now }
@@ -29,6 +32,7 @@ pub fn row_count(kept: &[u8]) -> u16
     layout::u16_at(kept, layout::ROW_COUNT_AT)
 }
 
+#[tactic(auto, using(crate::proofs::Rules::head_open_count_laws))]
 pub fn open_count(kept: &[u8]) -> u16
     requires { 20 ≤ length kept.now }
     ensures { result ≡ open_count kept.now }
@@ -36,6 +40,7 @@ pub fn open_count(kept: &[u8]) -> u16
     layout::u16_at(kept, layout::OPEN_COUNT_AT)
 }
 
+#[tactic(auto, using(crate::proofs::Rules::head_next_number_laws))]
 pub fn next_number(kept: &[u8]) -> u32
     requires { 20 ≤ length kept.now }
     ensures { result ≡ next_number kept.now }
@@ -43,6 +48,7 @@ pub fn next_number(kept: &[u8]) -> u32
     layout::u32_at(kept, layout::NEXT_AT)
 }
 
+#[tactic(auto, using(crate::proofs::Rules::head_program_type_laws))]
 pub fn program_type(kept: &[u8]) -> u16
     requires { 20 ≤ length kept.now }
     ensures { result ≡ program_type kept.now }
@@ -51,6 +57,7 @@ pub fn program_type(kept: &[u8]) -> u16
 }
 
 // The mark, the version and the zero byte behind it.
+#[tactic(auto, using(crate::proofs::Rules::head_is_marked_laws))]
 fn is_marked(kept: &[u8]) -> bool
     requires { 20 ≤ length kept.now }
     ensures { result ≡ same_numbers (take 5 (read record_head kept.now)) record_mark }
@@ -71,6 +78,7 @@ fn is_marked(kept: &[u8]) -> bool
 }
 
 // Each count and the next number within its limits, and the last zeros.
+#[tactic(auto, using(crate::proofs::Rules::head_counts_fit_laws))]
 fn counts_fit(kept: &[u8], m: Limits) -> bool
     requires { 20 ≤ length kept.now }
     ensures { result ≡ counts_fit (board m) kept.now }
@@ -103,6 +111,7 @@ fn counts_fit(kept: &[u8], m: Limits) -> bool
 }
 
 // The header's fixed numbers, and its counts within the board's limits.
+#[tactic(auto, using(crate::proofs::Rules::head_head_sound_laws))]
 pub fn head_sound(kept: &[u8], m: Limits) -> bool
     requires { 20 ≤ length kept.now }
     ensures { result ≡ head_sound (board m) kept.now }

@@ -1,19 +1,19 @@
-// When a run record is sound: a named test for each sentence of document 01.
+// When a run record is sound: a named test for each thing that is asked of it.
 #![tactic(auto)]
 
-use layout::{Found, Limits, Row};
-use meaning::Shape;
+use layout::kinds::Kind;
+use layout::views::Types;
+use layout::{Limits, Row};
 use open::OpenList;
 use quick::Seen;
 
 pub mod head;
 
-ghost use Rattle.std.specs.Prelude.{◌≡◌, true, false, ◌++◌, ◌≤◌, max, length};
+ghost use Rattle.std.specs.Prelude.{◌≡◌, true, false, ◌++◌, ◌+◌, ◌*◌, ◌≤◌, max, length};
 ghost use Rattle.meaning.specs.Bytes.{zeros, record_bytes};
 ghost use Rattle.meaning.specs.Types.{form_of};
-ghost use Rattle.meaning.specs.Typing.{given};
-ghost use Rattle.meaning.specs.Records.{nothing, first_not, rises, listed, future_listed, entry_sound, state_of, space_sound, types_sound, shape_sound, term_sound, calls_sound, futures_sound, program_sound, sound};
-ghost use Rattle.layout.specs.Rows.{board, type_table, row_table};
+ghost use Rattle.meaning.specs.Records.{type_count, row_count, types_in, entries_in, rows_in, nothing, first_not, rises, future_listed, entry_sound, state_of, space_sound, types_sound, shape_sound, term_sound, calls_sound, futures_sound, program_sound, sound};
+ghost use Rattle.layout.specs.Rows.{board, numbers, type_table, row_table};
 ghost use Rattle.open.specs.Open.{Lists};
 ghost use Rattle.sound.specs.Ready.{Roomy, Ready, ShowsRows, entry_table, call_table, others_sound, rest_sound};
 
@@ -28,28 +28,26 @@ fn greater(a: u8, b: u8) -> u8
 }
 
 // Each byte is zero: the greatest is, so that the loop has no other end and takes many bytes at a time.
+#[tactic(auto, using(crate::proofs::Rules::few_zero_laws))]
 fn few_zero(bytes: &[u8]) -> bool
     ensures { result ≡ zeros bytes.now }
 {
     let mut most: u8 = 0;
-    let mut i = 0;
-    while i < bytes.len() {
-        most = greater(most, bytes[i]);
-        i += 1;
+    for b in bytes {
+        most = greater(most, *b);
     }
     most == 0
 }
 
 // The same of four parts of one length: four bytes a turn, so that the loop waits less for the greatest so far.
+#[tactic(auto, using(crate::proofs::Rules::four_zero_laws))]
 fn four_zero(a: &[u8], b: &[u8], c: &[u8], d: &[u8]) -> bool
     requires { (length b.now ≡ length a.now) × (length c.now ≡ length a.now) × (length d.now ≡ length a.now) }
     ensures { result ≡ zeros (a.now ++ b.now ++ c.now ++ d.now) }
 {
     let mut most: u8 = 0;
-    let mut i = 0;
-    while i < a.len() {
+    for i in 0..a.len() {
         most = greater(most, greater(greater(a[i], b[i]), greater(c[i], d[i])));
-        i += 1;
     }
     most == 0
 }
@@ -71,68 +69,57 @@ fn all_zero(bytes: &[u8]) -> bool
 }
 
 // Each open number is above the one before it, the first above 0.
+#[tactic(auto, using(crate::proofs::Rules::rising_laws))]
 fn rising(calls: &[u8]) -> bool
     ensures { result ≡ rises 0 (call_table calls.now) }
 {
     let all = calls.len() / layout::ENTRY_ROW;
     let mut low: u32 = 0;
-    let mut i = 0;
-    while i < all {
+    for i in 0..all {
         let number = layout::u32_at(calls, layout::ENTRY_ROW * i);
         if number <= low {
             return false;
         }
         low = number;
-        i += 1;
     }
     true
 }
 
-// A future's number is open under the type that the future states.
+// A row is no future, or its number is open under the type that it states.
+#[tactic(auto, using(crate::proofs::Rules::is_listed_laws))]
 fn is_listed(calls: &[u8], r: Row) -> bool
-    ensures { result ≡ given (listed (call_table calls.now) r.word) r.ty }
+    ensures { result ≡ future_listed (call_table calls.now) (numbers r) }
 {
+    if !r.is(Kind::Future) {
+        return true;
+    }
     let all = calls.len() / layout::ENTRY_ROW;
-    let mut i = 0;
-    while i < all {
+    for i in 0..all {
         let at = layout::ENTRY_ROW * i;
         if layout::u32_at(calls, at) == r.word {
             return layout::u16_at(calls, at + layout::ENTRY_TYPE_AT) == r.ty;
         }
-        i += 1;
     }
     false
 }
 
 // Each future among the rows is listed with its type.
 fn futures_listed(rows: &[u8], calls: &[u8]) -> bool
+    requires { length rows.now ≤ 32768 }
     ensures { result ≡ nothing (first_not (future_listed (call_table calls.now)) (row_table rows.now)) }
 {
-    let all = layout::term_rows(rows);
-    let mut i = 0;
-    while i < all {
-        let r = layout::row_at(rows, i);
-        if r.kind == 9 {
-            if !is_listed(calls, r) {
-                return false;
-            }
-            i += 1;
-        } else {
-            i += 1;
-        }
-    }
-    true
+    layout::first_failing(rows, |r| is_listed(calls, r)).is_none()
 }
 
 // Each entry's number is below the next one, its type is ground, its last field is zero.
+#[tactic(auto, using(crate::proofs::Rules::entries_sound_laws))]
 fn entries_sound(types: &[u8], calls: &[u8], next: u32) -> bool
     requires { length types.now ≤ 9216 }
     ensures { result ≡ nothing (first_not (entry_sound (form_of (type_table types.now)) next) (entry_table calls.now)) }
 {
     let all = calls.len() / layout::ENTRY_ROW;
     let mut known = [0u8; 256];
-    let mut i = 0;
-    while i < all {
+    for i in 0..all {
         let at = layout::ENTRY_ROW * i;
         if next <= layout::u32_at(calls, at) {
             return false;
@@ -144,12 +131,56 @@ fn entries_sound(types: &[u8], calls: &[u8], next: u32) -> bool
         if layout::u16_at(calls, at + layout::ENTRY_ZEROS_AT) != 0 {
             return false;
         }
-        i += 1;
     }
     true
 }
 
+// The bytes of a record's types.
+#[tactic(auto, using(crate::proofs::Rules::types_of_laws))]
+fn type_bytes(kept: &[u8]) -> &[u8]
+    requires { 20 + 36 * type_count kept.now ≤ length kept.now }
+    ensures table { type_table result.now ≡ types_in kept.now }
+    ensures long { length result.now ≡ 36 * type_count kept.now }
+{
+    let end = layout::RECORD_HEAD + layout::TYPE_ROW * head::type_count(kept) as usize;
+    &kept[layout::RECORD_HEAD..end]
+}
+
+// The types of a record.
+pub fn types_of(kept: &[u8]) -> Types<'_>
+    requires { 20 + 36 * type_count kept.now ≤ length kept.now }
+    ensures { result ≡ types_in kept.now }
+{
+    Types::new(type_bytes(kept))
+}
+
+// The entries of its open list.
+#[tactic(auto, using(crate::proofs::Rules::entries_of_laws))]
+fn entries_of(kept: &[u8], m: Limits) -> &[u8]
+    requires { Ready m kept.now }
+    ensures { entry_table result.now ≡ entries_in (board m) kept.now }
+{
+    let at = layout::calls_at(m);
+    let end = at + layout::ENTRY_ROW * head::open_count(kept) as usize;
+    &kept[at..end]
+}
+
+// The rows of its term.
+#[tactic(auto, using(crate::proofs::Rules::rows_of_laws))]
+pub fn rows_of(kept: &[u8], m: Limits) -> &[u8]
+    requires { Ready m kept.now }
+    ensures table { row_table result.now ≡ rows_in (board m) kept.now }
+    ensures long { length result.now ≡ 8 * row_count kept.now }
+    ensures some { 8 ≤ length result.now }
+    ensures few { length result.now ≤ 16384 }
+{
+    let at = layout::rows_at(m);
+    let end = at + layout::TERM_ROW * head::row_count(kept) as usize;
+    &kept[at..end]
+}
+
 // "Unused space is zero": behind the rows in use of each part.
+#[tactic(auto, using(crate::proofs::Rules::space_sound_laws))]
 fn space_sound(kept: &[u8], m: Limits) -> bool
     requires { Ready m kept.now }
     ensures { result ≡ space_sound (board m) kept.now }
@@ -169,74 +200,53 @@ fn space_sound(kept: &[u8], m: Limits) -> bool
 }
 
 // "its types .. pass what [refusal 6 tests]"
+#[tactic(auto, using(crate::proofs::Rules::parts_laws), unfolding(meaning::specs::Records::types_sound))]
 fn types_sound(kept: &[u8], m: Limits) -> bool
     requires { Ready m kept.now }
     ensures { result ≡ types_sound kept.now }
 {
-    let end = layout::RECORD_HEAD + layout::TYPE_ROW * head::type_count(kept) as usize;
-    let bad = types::bad_type(&kept[layout::RECORD_HEAD..end], head::edition(kept));
-    match bad {
-        Found::At(_) => false,
-        Found::Nothing => true,
-    }
+    types::bad_type(type_bytes(kept), head::edition(kept)).is_none()
 }
 
 // "and term pass what refusals .. 7 .. test"
+#[tactic(auto, using(crate::proofs::Rules::parts_laws), unfolding(meaning::specs::Records::shape_sound))]
 fn shape_sound(kept: &[u8], m: Limits) -> bool
     requires { Ready m kept.now }
     ensures { result ≡ shape_sound (board m) kept.now }
 {
-    let at = layout::rows_at(m);
-    let end = at + layout::TERM_ROW * head::row_count(kept) as usize;
-    let shape = terms::check_shape(&kept[at..end], head::type_count(kept), head::edition(kept));
-    match shape {
-        Shape::Whole => true,
-        Shape::Bad(_, _) => false,
-    }
+    let rows = rows_of(kept, m);
+    terms::check_shape(rows, head::type_count(kept), head::edition(kept)).is_ok()
 }
 
 // "and 9 test"
+#[tactic(auto, using(crate::proofs::Rules::parts_laws), unfolding(meaning::specs::Records::term_sound, meaning::specs::Records::state_of))]
 fn term_sound(kept: &[u8], m: Limits) -> bool
     requires { (Ready m kept.now) × (shape_sound (board m) kept.now ≡ true) }
     ensures { result ≡ term_sound (board m) kept.now }
 {
-    let types_end = layout::RECORD_HEAD + layout::TYPE_ROW * head::type_count(kept) as usize;
-    let at = layout::rows_at(m);
-    let end = at + layout::TERM_ROW * head::row_count(kept) as usize;
-    let bad = typing::first_bad(&kept[layout::RECORD_HEAD..types_end], &kept[at..end]);
-    match bad {
-        Found::At(_) => false,
-        Found::Nothing => true,
-    }
+    typing::first_bad(&types_of(kept), rows_of(kept, m)).is_none()
 }
 
 // A row that fails by itself: then the record is not sound, whether its shape is whole or not.
+#[tactic(auto, using(crate::proofs::Rules::parts_laws))]
 fn row_fails(kept: &[u8], m: Limits, row: usize) -> bool
     requires { Ready m kept.now }
     ensures { result ≡ true → rest_sound (board m) kept.now ≡ false }
 {
-    let types_end = layout::RECORD_HEAD + layout::TYPE_ROW * head::type_count(kept) as usize;
-    let at = layout::rows_at(m);
-    let end = at + layout::TERM_ROW * head::row_count(kept) as usize;
-    typing::leaf_fails(&kept[layout::RECORD_HEAD..types_end], &kept[at..end], row)
+    typing::leaf_fails(&types_of(kept), rows_of(kept, m), row)
 }
 
 // What is seen of the rows at once.
+#[tactic(auto, using(crate::proofs::Rules::parts_laws))]
 fn quick_sound(kept: &[u8], m: Limits) -> Seen
     requires { Ready m kept.now }
     ensures { ShowsRows (board m) kept.now result }
 {
-    let types_end = layout::RECORD_HEAD + layout::TYPE_ROW * head::type_count(kept) as usize;
-    let at = layout::rows_at(m);
-    let end = at + layout::TERM_ROW * head::row_count(kept) as usize;
-    quick::all_good(
-        &kept[layout::RECORD_HEAD..types_end],
-        &kept[at..end],
-        head::edition(kept),
-    )
+    quick::all_good(&types_of(kept), rows_of(kept, m), head::edition(kept))
 }
 
 // The open calls of a record.
+#[tactic(auto, using(crate::proofs::Rules::open_list_laws))]
 pub fn open_list(kept: &[u8], m: Limits) -> OpenList
     requires { Ready m kept.now }
     ensures { Lists result (state_of (board m) kept.now).calls }
@@ -247,24 +257,20 @@ pub fn open_list(kept: &[u8], m: Limits) -> OpenList
 }
 
 // "kept in rising order of number", "every open number is at least 1 and below the next and its type ground"
+#[tactic(auto, using(crate::proofs::Rules::parts_laws), unfolding(meaning::specs::Records::calls_sound, meaning::specs::Records::state_of))]
 fn calls_sound(kept: &[u8], m: Limits) -> bool
     requires { Ready m kept.now }
     ensures { result ≡ calls_sound (board m) kept.now }
 {
-    let at = layout::calls_at(m);
-    let end = at + layout::ENTRY_ROW * head::open_count(kept) as usize;
-    if !rising(&kept[at..end]) {
+    let calls = entries_of(kept, m);
+    if !rising(calls) {
         return false;
     }
-    let types_end = layout::RECORD_HEAD + layout::TYPE_ROW * head::type_count(kept) as usize;
-    entries_sound(
-        &kept[layout::RECORD_HEAD..types_end],
-        &kept[at..end],
-        head::next_number(kept),
-    )
+    entries_sound(type_bytes(kept), calls, head::next_number(kept))
 }
 
 // "each future in the term is listed with its type", where there may be one
+#[tactic(auto, using(crate::proofs::Rules::parts_laws), unfolding(meaning::specs::Records::futures_sound, meaning::specs::Records::state_of))]
 fn futures_sound(kept: &[u8], m: Limits, future: bool) -> bool
     requires { Ready m kept.now × (future ≡ false → futures_sound (board m) kept.now ≡ true) }
     ensures { result ≡ futures_sound (board m) kept.now }
@@ -272,23 +278,20 @@ fn futures_sound(kept: &[u8], m: Limits, future: bool) -> bool
     if !future {
         return true;
     }
-    let calls = layout::calls_at(m);
-    let calls_end = calls + layout::ENTRY_ROW * head::open_count(kept) as usize;
-    let rows = layout::rows_at(m);
-    let rows_end = rows + layout::TERM_ROW * head::row_count(kept) as usize;
-    futures_listed(&kept[rows..rows_end], &kept[calls..calls_end])
+    futures_listed(rows_of(kept, m), entries_of(kept, m))
 }
 
 // "the first row has the program type"
+#[tactic(auto, using(crate::proofs::Rules::parts_laws), unfolding(meaning::specs::Records::program_sound))]
 fn program_sound(kept: &[u8], m: Limits) -> bool
     requires { Ready m kept.now }
     ensures { result ≡ program_sound (board m) kept.now }
 {
-    let at = layout::rows_at(m);
-    layout::u16_at(kept, at + layout::ROW_TYPE_AT) == head::program_type(kept)
+    layout::u16_at(rows_of(kept, m), layout::ROW_TYPE_AT) == head::program_type(kept)
 }
 
 // The tests behind those of the rows: the open list, the futures, where there may be one, the program's type.
+#[tactic(auto, using(crate::proofs::Rules::others_sound_laws))]
 fn others_sound(kept: &[u8], m: Limits, future: bool) -> bool
     requires { Ready m kept.now × (future ≡ false → futures_sound (board m) kept.now ≡ true) }
     ensures { result ≡ others_sound (board m) kept.now }
@@ -303,6 +306,7 @@ fn others_sound(kept: &[u8], m: Limits, future: bool) -> bool
 }
 
 // The tests behind that of the types, each of the rows' by a pass of its own. A row that may fail by itself is asked before them.
+#[tactic(auto, using(crate::proofs::Rules::rest_sound_laws))]
 fn rest_sound(kept: &[u8], m: Limits, row: usize) -> bool
     requires { Ready m kept.now }
     ensures { result ≡ rest_sound (board m) kept.now }
@@ -320,6 +324,7 @@ fn rest_sound(kept: &[u8], m: Limits, row: usize) -> bool
 }
 
 // A record of the right length is sound. Rows that are seen to be good at once need no passes of their own.
+#[tactic(auto, using(crate::proofs::Rules::is_sound_laws))]
 pub fn is_sound(kept: &[u8], m: Limits) -> bool
     requires { (Roomy m) × (length kept.now ≡ record_bytes (board m)) }
     ensures { result ≡ sound (board m) kept.now }
@@ -333,9 +338,8 @@ pub fn is_sound(kept: &[u8], m: Limits) -> bool
     if !types_sound(kept, m) {
         return false;
     }
-    let seen = quick_sound(kept, m);
-    if seen.good {
-        return others_sound(kept, m, seen.future);
+    match quick_sound(kept, m) {
+        Ok(future) => others_sound(kept, m, future),
+        Err(row) => rest_sound(kept, m, row),
     }
-    rest_sound(kept, m, seen.row)
 }

@@ -9,7 +9,7 @@ use Rattle.meaning.specs.Bytes.{width, read, write, reads, writes, padded, type_
 use Rattle.meaning.specs.Terms.{ty_of, flat, size, type_no, raw, row_of, trees, top, tree_of}
 use Rattle.meaning.specs.Records.{record_mark, head_numbers, record_of}
 use Rattle.meaning.specs.Entries.{file_type_count, file_row_count, file_types, file_rows, file_tree, load_verdict, loaded_state}
-use Rattle.meaning.specs.declared.Verdict.TheVariants.{Accepted}
+use Rattle.std.specs.Prelude.{Ok}
 use Rattle.meaning.proofs.Bytes.Layouts.{AllBytes, bytes_drop, padded-length, length-write, writes_reads, length-reads, reads_at, reads-wide}
 use Rattle.meaning.proofs.Bytes.RowTables.{shape-whole}
 use Rattle.meaning.proofs.Entries.Loading.{accepted-legal}
@@ -79,7 +79,7 @@ pub record Sized (m : Limits) (s : List ℕ) (room : ℕ) : Type 0 where
   pub kept : room ≡ 20 + (36 * m.types + (8 * m.calls + 8 * m.rows))
   pub rows-from : rows_at m ≡ 20 + (36 * m.types + 8 * m.calls)
 
-module _ (m : Limits) (s : List ℕ) (room : ℕ) (ok : load_verdict m s room ≡ Accepted) where
+module _ (m : Limits) (s : List ℕ) (room : ℕ) (ok : load_verdict m s room ≡ Ok tt) where
   pub sized : Sized m s room
   unfolding width record_bytes rows_at calls_at
   sized =
@@ -141,7 +141,7 @@ first-row s at r h e =
     row_type r (read term_row (drop at s)) (e ∙ ap (λ (l : List (List ℕ)). get_or l 0 []) (reads-cut term_row 1 (length s - at) (drop at s) (rw term-width (omega arith)) g))
 
 -- the record, part by part, is the fresh one
-module _ (m : Limits) (s : List ℕ) (room : ℕ) (ok : load_verdict m s room ≡ Accepted) (bytes : AllBytes s) (fits : m.program_rows ≤ m.rows) where
+module _ (m : Limits) (s : List ℕ) (room : ℕ) (ok : load_verdict m s room ≡ Ok tt) (bytes : AllBytes s) (fits : m.program_rows ≤ m.rows) where
   pub fresh-written : (b₁ b₂ b₃ b₄ : List ℕ) (types rows program p : ℕ)
       → types ≡ file_type_count s → rows ≡ file_row_count s → program ≡ type_no (read term_row (drop (10 + 36 * types) s)) → p ≡ rows_at m
       → b₁ ≡ replicate room 0

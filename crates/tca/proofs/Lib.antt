@@ -4,3 +4,4 @@ pub mod FreshLaws
 pub mod Once
 pub mod ReplyLaws
 pub mod RunLaws
+pub mod Rules

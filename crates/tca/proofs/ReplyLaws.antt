@@ -4,22 +4,21 @@ use mathlib.Core.Path.{◌≡◌, refl, ap, sym, ◌∙◌, subst}
 use mathlib.Core.Bool.{Bool, true, false, cond}
 use mathlib.Core.List.{List, []}
 use native.Mathlib.Omega.{arith}
-use borrow.Author.Tests.{eq-eqb, ne_eqb, eqb-true}
+use borrow.Author.Tests.{eqb-true}
 use lib.Dec.{eqb}
 use lib.ListN.{length, replicate}
 use Rattle.meaning.specs.Bytes.{◌∧ᵇ◌, padded, Limits, arm, record_bytes}
 use Rattle.meaning.specs.Records.{record_of, state_of, head_sound, sound}
 use Rattle.meaning.specs.Entries.{require, leaves, lent, reply_verdict, replied_state, Replied, replied_out, reply, ReplySays}
-use Rattle.meaning.specs.declared.Verdict.{Verdict as Judgement}
-use Rattle.meaning.specs.declared.Verdict.TheVariants.{Accepted, Refused}
+use Rattle.meaning.specs.Answers.{Verdict as Judgement}
+use Rattle.std.specs.Prelude.{Ok, Err}
 use Rattle.meaning.specs.declared.Refusal.{Refusal}
 use Rattle.meaning.specs.declared.Refusal.TheVariants.{Length, Unsound}
-use Rattle.meaning.proofs.Trees.Tests.{left, right, both}
-use Rattle.sound.proofs.Laws.{fails, passes}
+use Rattle.meaning.proofs.Trees.Tests.{left}
 use Rattle.tca.specs.declared.Verdict.{Verdict}
 use Rattle.tca.specs.Replies.{judged, TellsReply}
 
-required : (b : Bool) (r : Refusal) (v : Judgement) → require b r v ≡ Accepted → (b ≡ true) × (v ≡ Accepted)
+required : (b : Bool) (r : Refusal) (v : Judgement) → require b r v ≡ Ok tt → (b ≡ true) × (v ≡ Ok tt)
 unfolding require
 required true r v e = (refl, e)
 required false r v e = let z : ◌≡◌ {A = ℕ} 0 1 = cc in absurd (omega arith)
@@ -30,48 +29,32 @@ unfolding sound
 head_passed m kept e = left _ _ e
 
 module _ (m : Limits) (kept : List ℕ) (room : ℕ) (answer : List ℕ) where
-  pub other-record : (length kept ≡ record_bytes m → ⊥) → judged m kept room answer ≡ Refused Length
-  unfolding judged require
-  other-record n = rw (fails _ (eqb room m.work_bytes) (ne_eqb (length kept) (record_bytes m) n)) refl
-
-  module _ (e : length kept ≡ record_bytes m) where
-    pub other-work : (room ≡ m.work_bytes → ⊥) → judged m kept room answer ≡ Refused Length
-    unfolding judged require
-    other-work n = rw (passes _ (eqb room m.work_bytes) (eq-eqb (length kept) (record_bytes m) e), ne_eqb room m.work_bytes n) refl
-
-    module _ (f : room ≡ m.work_bytes) where
-      pub unsound : sound m kept ≡ false → judged m kept room answer ≡ Refused Unsound
-      unfolding judged require
-      unsound s = rw (both _ _ (eq-eqb (length kept) (record_bytes m) e) (eq-eqb room m.work_bytes f), s) refl
-
-      pub by_state : sound m kept ≡ true → judged m kept room answer ≡ reply_verdict m (state_of m kept) answer
-      unfolding judged require
-      by_state s = rw (both _ _ (eq-eqb (length kept) (record_bytes m) e) (eq-eqb room m.work_bytes f), s) refl
-
   -- what an accepted reply has passed
   pub record Passed : Type 0 where
     pub long : length kept ≡ record_bytes m
     pub work : room ≡ m.work_bytes
     pub is-sound : sound m kept ≡ true
-    pub accepted : reply_verdict m (state_of m kept) answer ≡ Accepted
+    pub accepted : reply_verdict m (state_of m kept) answer ≡ Ok tt
 
-  pub passed : judged m kept room answer ≡ Accepted → Passed
+  pub passed : judged m kept room answer ≡ Ok tt → Passed
   unfolding judged
   passed e =
       let (a, f) = required _ _ _ e in
       let (b, g) = required _ _ _ f in
-      record { long = eqb-true _ _ (left _ _ a); work = eqb-true _ _ (right _ _ a); is-sound = b; accepted = g }
+      let (d, h) = required _ _ _ g in
+      record { long = eqb-true _ _ a; work = eqb-true _ _ b; is-sound = d; accepted = h }
 
 reply-is : (m : Limits) (kept work answer : List ℕ) → reply m kept work answer ≡ replied_out m (state_of m kept) answer kept work (judged m kept (length work) answer)
-unfolding reply judged require lent
-reply-is m kept work answer = go (eqb (length kept) (record_bytes m) ∧ᵇ eqb (length work) m.work_bytes) (sound m kept)
+unfolding reply judged require lent ◌∧ᵇ◌
+reply-is m kept work answer = go (eqb (length kept) (record_bytes m)) (eqb (length work) m.work_bytes) (sound m kept)
   where
-    go : (a b : Bool)
-        → cond a (cond b (replied_out m (state_of m kept) answer kept work (reply_verdict m (state_of m kept) answer)) (replied_out m (state_of m kept) answer kept work (Refused Unsound))) (replied_out m (state_of m kept) answer kept work (Refused Length))
-        ≡ replied_out m (state_of m kept) answer kept work (require a Length (require b Unsound (reply_verdict m (state_of m kept) answer)))
-    go true true = refl
-    go true false = refl
-    go false b = refl
+    go : (a d b : Bool)
+        → cond (a ∧ᵇ d) (cond b (replied_out m (state_of m kept) answer kept work (reply_verdict m (state_of m kept) answer)) (replied_out m (state_of m kept) answer kept work (Err Unsound))) (replied_out m (state_of m kept) answer kept work (Err Length))
+        ≡ replied_out m (state_of m kept) answer kept work (require a Length (require d Length (require b Unsound (reply_verdict m (state_of m kept) answer))))
+    go true true true = refl
+    go true true false = refl
+    go true false b = refl
+    go false d b = refl
 
 blank : (n : ℕ) → padded n [] ≡ replicate n 0
 unfolding padded
@@ -81,7 +64,7 @@ module _ (m : Limits) (a : m ≡ arm) (kept work answer : List ℕ) (v : Judgeme
   out-is : reply m kept work answer ≡ replied_out m (state_of m kept) answer kept work v
   out-is = reply-is m kept work answer ∙ ap (replied_out m (state_of m kept) answer kept work) (sym d)
 
-  pub replies-settled : (kept' work' : List ℕ) → v ≡ Accepted → kept' ≡ record_of m (replied_state (state_of m kept) answer) → work' ≡ replicate (length work) 0 → ReplySays arm kept work answer v kept' work'
+  pub replies-settled : (kept' work' : List ℕ) → v ≡ Ok tt → kept' ≡ record_of m (replied_state (state_of m kept) answer) → work' ≡ replicate (length work) 0 → ReplySays arm kept work answer v kept' work'
   unfolding replied_out leaves
   replies-settled kept' work' q k w =
       let p = passed m kept (length work) answer (sym d ∙ q) in
@@ -92,7 +75,7 @@ module _ (m : Limits) (a : m ≡ arm) (kept work answer : List ℕ) (v : Judgeme
         work-bytes = w ∙ ap (λ (n : ℕ). replicate n 0) p.work ∙ sym (blank m.work_bytes) ∙ sym (ap (λ (o : Replied). o.work') out-is ∙ rw q refl);
       })
 
-  pub replies-nothing : (r : Refusal) → v ≡ Refused r → ReplySays arm kept work answer v kept work
+  pub replies-nothing : (r : Refusal) → v ≡ Err r → ReplySays arm kept work answer v kept work
   unfolding replied_out leaves
   replies-nothing r q =
       subst (λ (x : Limits). ReplySays x kept work answer v kept work) a

@@ -1,11 +1,11 @@
-// A run's answer in document 01's numbers.
+// A run's answer in numbers.
 ghost use Rattle.std.specs.Prelude.{◌≡◌};
 ghost use Rattle.meaning.specs.Answers.{answer_number, sent_number};
 ghost use Rattle.tca.specs.Runs.{Shows};
 
 use meaning::{Answer, Run};
 
-// Refusal 0 where the record ran; else the other three are 0.
+// Refusal 0 where the record ran; else the other three are 0. A struct of fixed layout, since C gets it.
 #[repr(C)]
 #[derive(Clone, Copy)]
 pub struct RunAnswer {
@@ -15,6 +15,7 @@ pub struct RunAnswer {
     pub steps: u32,
 }
 
+// C gets each answer, and the number sent, as a number of its own: two functions, and no Display.
 fn answer_number(a: Answer) -> u32
     ensures { result ≡ answer_number a }
 {
@@ -33,31 +34,28 @@ fn sent_number(a: Answer) -> u32
     ensures { result ≡ sent_number a }
 {
     match a {
-        Answer::Value => 0,
-        Answer::Waiting => 0,
         Answer::Sent(k) => k,
-        Answer::Held => 0,
-        Answer::Budget => 0,
-        Answer::Room => 0,
-        Answer::Numbers => 0,
+        _ => 0,
     }
 }
 
-pub fn shown(r: Run) -> RunAnswer
-    ensures { Shows r result }
-{
-    match r {
-        Run::Ran(a, n) => RunAnswer {
-            refusal: 0,
-            answer: answer_number(a),
-            sent: sent_number(a),
-            steps: n,
-        },
-        Run::Rejected(f) => RunAnswer {
-            refusal: super::answers::refusal_number(f),
-            answer: 0,
-            sent: 0,
-            steps: 0,
-        },
+impl From<Run> for RunAnswer {
+    ghost from_gives = { λ r a. Shows r a };
+
+    fn from(r: Run) -> RunAnswer {
+        match r {
+            Ok(ran) => RunAnswer {
+                refusal: 0,
+                answer: answer_number(ran.answer),
+                sent: sent_number(ran.answer),
+                steps: ran.steps,
+            },
+            Err(r) => RunAnswer {
+                refusal: u32::from(r),
+                answer: 0,
+                sent: 0,
+                steps: 0,
+            },
+        }
     }
 }

@@ -1,15 +1,14 @@
 // The fresh record of an accepted file.
-ghost use Rattle.std.specs.Prelude.{◌≡◌, ◌≤◌, length};
+ghost use Rattle.std.specs.Prelude.{◌≡◌, ◌≤◌, length, Ok};
 ghost use Rattle.layout.specs.Rows.{board};
 ghost use Rattle.meaning.specs.Records.{record_of};
 ghost use Rattle.meaning.specs.Entries.{load_verdict, loaded_state};
-ghost use Rattle.meaning.specs.declared.Verdict.TheVariants.{Accepted};
 
 use layout::Limits;
 
 // All bytes zero, then the header, the file's types and the file's rows.
 pub fn write_fresh(file: &[u8], kept: &mut [u8], m: Limits)
-    requires { (load_verdict (board m) file.now (length kept.old) ≡ Accepted) × (m.program ≤ m.rows) }
+    requires { (load_verdict (board m) file.now (length kept.old) ≡ Ok tt) × (m.program ≤ m.rows) }
     ensures { kept.new ≡ record_of (board m) (loaded_state file.now) }
 {
     let types = super::head::type_count(file);

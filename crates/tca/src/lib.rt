@@ -1,10 +1,11 @@
 // Load: a program file is judged and, if accepted, written as a fresh record.
 #![tactic(auto)]
 
-use layout::{Found, Limits};
-use meaning::{Refusal, Shape};
+use layout::Limits;
+use layout::kinds::Kind;
+use layout::views::Types;
+use meaning::{Refusal, require};
 
-mod answers;
 pub mod figures;
 mod fresh;
 mod head;
@@ -12,13 +13,14 @@ pub mod reply;
 pub mod run;
 
 ghost use Rattle.std.specs.Prelude.{◌≡◌, ◌+◌, ◌*◌, ◌≤◌, length};
-ghost use Rattle.layout.specs.Rows.{found, board, row_table};
+ghost use Rattle.layout.specs.Rows.{board, row_table};
+ghost use Rattle.meaning.specs.Answers.{verdict_number, verdict_place};
 ghost use Rattle.meaning.specs.Bytes.{arm};
 ghost use Rattle.meaning.specs.Records.{first_not};
 ghost use Rattle.meaning.specs.Entries.{file_edition, file_type_count, file_row_count, no_future, program_verdict, load_verdict, LoadSays};
 ghost use Rattle.tca.specs.Loads.{Tells, future_verdict, rows_verdict};
 
-// A verdict in document 01's numbers.
+// A verdict in numbers, as C gets it: a struct of fixed layout.
 #[repr(C)]
 #[derive(Clone, Copy)]
 pub struct Verdict {
@@ -26,131 +28,107 @@ pub struct Verdict {
     pub place: u32,
 }
 
-// Refusal 8: the first future.
-fn first_future(rows: &[u8]) -> Found
-    requires { length rows.now ≤ 32768 }
-    ensures { found result ≡ first_not no_future (row_table rows.now) }
-{
-    let n = layout::term_rows(rows);
-    let mut i = 0;
-    while i < n {
-        let r = layout::row_at(rows, i);
-        if r.kind == 9 {
-            return Found::At(i as u32);
+// 0 and 0 where nothing is refused.
+impl From<meaning::Verdict> for Verdict {
+    ghost from_gives = { λ v c. (c.refusal ≡ verdict_number v) × (c.place ≡ verdict_place v) };
+
+    fn from(v: meaning::Verdict) -> Verdict {
+        match v {
+            Ok(()) => Verdict {
+                refusal: 0,
+                place: 0,
+            },
+            Err(r) => Verdict {
+                refusal: u32::from(r),
+                place: r.place(),
+            },
         }
-        i += 1;
     }
-    Found::Nothing
+}
+
+// Refusal 8: the first future.
+fn first_future(rows: &[u8]) -> Option<u32>
+    requires { length rows.now ≤ 32768 }
+    ensures { result ≡ first_not no_future (row_table rows.now) }
+{
+    layout::first_failing(rows, |r| !r.is(Kind::Future))
 }
 
 // Refusal 8 alone.
-fn future_verdict(rows: &[u8]) -> meaning::Verdict
+#[tactic(auto, unfolding(crate::specs::Loads::future_verdict, meaning::specs::Entries::refuse))]
+fn future_verdict(rows: &[u8]) -> Result<(), Refusal>
     requires { length rows.now ≤ 32768 }
     ensures { result ≡ future_verdict rows.now }
 {
-    let future = first_future(rows);
-    match future {
-        Found::At(i) => meaning::Verdict::Refused(Refusal::Future(i)),
-        Found::Nothing => meaning::Verdict::Accepted,
+    match first_future(rows) {
+        Some(i) => Err(Refusal::Future(i)),
+        None => Ok(()),
     }
 }
 
 // Refusals 7 to 9, each by a pass of its own, which finds the row.
-fn rows_verdict(types: &[u8], rows: &[u8], edition: u16, count: u16) -> meaning::Verdict
+#[tactic(auto, using(crate::proofs::Rules::walked), unfolding(crate::specs::Loads::rows_verdict, crate::specs::Loads::future_verdict, meaning::specs::Entries::refuse, meaning::specs::Entries::refuse_shape))]
+fn rows_verdict(types: &[u8], rows: &[u8], edition: u16, count: u16) -> Result<(), Refusal>
     requires { length rows.now ≤ 16384 }
     ensures { result ≡ rows_verdict edition count types.now rows.now }
 {
-    let form = terms::check_shape(rows, count, edition);
-    if let Shape::Bad(f, i) = form {
-        return meaning::Verdict::Refused(Refusal::Row(f, i));
+    terms::check_shape(rows, count, edition).map_err(|(f, i)| Refusal::Row(f, i))?;
+    future_verdict(rows)?;
+    match typing::first_bad(&Types::new(types), rows) {
+        Some(i) => Err(Refusal::Typing(i)),
+        None => Ok(()),
     }
-    let future = first_future(rows);
-    if let Found::At(i) = future {
-        return meaning::Verdict::Refused(Refusal::Future(i));
-    }
-    let ill = typing::first_bad(types, rows);
-    if let Found::At(i) = ill {
-        return meaning::Verdict::Refused(Refusal::Typing(i));
-    }
-    meaning::Verdict::Accepted
 }
 
 // Refusals 6 to 9 of a file of an edition that has the length its counts need, with `count` types. Rows that are seen to be good at once need no
 // other pass than the one for futures.
-fn program_verdict(file: &[u8], edition: u16, count: u16) -> meaning::Verdict
+fn program_verdict(file: &[u8], edition: u16, count: u16) -> Result<(), Refusal>
     requires { (length file.now ≡ 10 + 36 * file_type_count file.now + 8 * file_row_count file.now) × (count ≡ file_type_count file.now) × (edition ≡ file_edition file.now) × (count ≤ 256) × (file_row_count file.now ≤ 2048) }
     ensures { result ≡ program_verdict file.now }
 {
     let at = layout::FILE_HEAD + layout::TYPE_ROW * count as usize;
     let types = &file[layout::FILE_HEAD..at];
     let rows = &file[at..];
-    let bad = types::bad_type(types, edition);
-    if let Found::At(i) = bad {
-        return meaning::Verdict::Refused(Refusal::TypeRow(i));
+    if let Some(i) = types::bad_type(types, edition) {
+        return Err(Refusal::TypeRow(i));
     }
-    let seen = quick::all_good(types, rows, edition);
-    if seen.good {
-        if seen.future {
-            return future_verdict(rows);
-        }
-        return meaning::Verdict::Accepted;
+    match quick::all_good(&Types::new(types), rows, edition) {
+        Ok(false) => Ok(()),
+        Ok(true) => future_verdict(rows),
+        Err(_) => rows_verdict(types, rows, edition, count),
     }
-    rows_verdict(types, rows, edition, count)
 }
 
 // The verdict alone: nothing is written.
-fn load_verdict(file: &[u8], room: usize, m: Limits) -> meaning::Verdict
+#[tactic(auto, unfolding(meaning::specs::Entries::load_verdict, meaning::specs::Entries::require, meaning::specs::Bytes::width, crate::specs::Loads::marked, crate::specs::Loads::counts_ok))]
+fn load_verdict(file: &[u8], room: usize, m: Limits) -> Result<(), Refusal>
     requires { (m.types ≤ 256) × (m.program ≤ 2048) }
     ensures { result ≡ load_verdict (board m) file.now room }
 {
-    if room != layout::record_bytes(m) {
-        return meaning::Verdict::Refused(Refusal::Length);
-    }
-    if file.len() < layout::FILE_HEAD {
-        return meaning::Verdict::Refused(Refusal::Size);
-    }
-    if head::is_marked(file) {
-        let edition = head::version(file);
-        if edition != layout::EDITION {
-            return meaning::Verdict::Refused(Refusal::Version);
-        }
-        if head::counts_ok(file, m) {
-            let types = head::type_count(file);
-            let rows = head::row_count(file);
-            if file.len()
-                != layout::FILE_HEAD
-                    + layout::TYPE_ROW * types as usize
-                    + layout::TERM_ROW * rows as usize
-            {
-                return meaning::Verdict::Refused(Refusal::Size);
-            }
-            return program_verdict(file, edition, types);
-        }
-        return meaning::Verdict::Refused(Refusal::Count);
-    }
-    meaning::Verdict::Refused(Refusal::Mark)
+    require(room == layout::record_bytes(m), Refusal::Length)?;
+    require(layout::FILE_HEAD <= file.len(), Refusal::Size)?;
+    require(head::is_marked(file), Refusal::Mark)?;
+    let edition = head::version(file);
+    require(edition == layout::EDITION, Refusal::Version)?;
+    require(head::counts_ok(file, m), Refusal::Count)?;
+    let types = head::type_count(file);
+    let rows = layout::FILE_HEAD + layout::TYPE_ROW * types as usize;
+    let size = rows + layout::TERM_ROW * head::row_count(file) as usize;
+    require(file.len() == size, Refusal::Size)?;
+    program_verdict(file, edition, types)
 }
 
-pub fn load(file: &[u8], kept: &mut [u8]) -> meaning::Verdict
+pub fn load(file: &[u8], kept: &mut [u8]) -> Result<(), Refusal>
     ensures { LoadSays arm file.now kept.old result kept.new }
 {
     let m = runs::arm_limits();
-    let v = load_verdict(file, kept.len(), m);
-    match v {
-        meaning::Verdict::Accepted => {
-            fresh::write_fresh(file, kept, m);
-            v
-        }
-        meaning::Verdict::Refused(_) => v,
-    }
+    load_verdict(file, kept.len(), m)?;
+    fresh::write_fresh(file, kept, m);
+    Ok(())
 }
 
 pub fn tca_load(file: &[u8], kept: &mut [u8]) -> Verdict
     ensures { Tells file.now kept.old kept.new result }
 {
-    let v = load(file, kept);
-    Verdict {
-        refusal: answers::verdict_number(v),
-        place: answers::verdict_place(v),
-    }
+    Verdict::from(load(file, kept))
 }

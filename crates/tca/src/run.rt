@@ -4,27 +4,21 @@ ghost use Rattle.meaning.specs.Bytes.{arm};
 ghost use Rattle.meaning.specs.Entries.{RunSays};
 ghost use Rattle.tca.specs.Runs.{TellsRun};
 
-use meaning::{Refusal, Run};
+use crate::figures::RunAnswer;
+use meaning::{Ran, Refusal, require};
 
-pub fn run(kept: &mut [u8], work: &mut [u8], budget: u32) -> Run
+pub fn run(kept: &mut [u8], work: &mut [u8], budget: u32) -> Result<Ran, Refusal>
     ensures { RunSays arm kept.old work.old budget result kept.new work.new }
 {
     let m = runs::arm_limits();
-    if kept.len() != layout::record_bytes(m) {
-        return Run::Rejected(Refusal::Length);
-    }
-    if work.len() != m.work as usize {
-        return Run::Rejected(Refusal::Length);
-    }
-    if !sound::is_sound(kept, m) {
-        return Run::Rejected(Refusal::Unsound);
-    }
+    require(kept.len() == layout::record_bytes(m), Refusal::Length)?;
+    require(work.len() == m.work as usize, Refusal::Length)?;
+    require(sound::is_sound(kept, m), Refusal::Unsound)?;
     runs::run(kept, work, budget)
 }
 
-pub fn tca_run(kept: &mut [u8], work: &mut [u8], budget: u32) -> super::figures::RunAnswer
+pub fn tca_run(kept: &mut [u8], work: &mut [u8], budget: u32) -> RunAnswer
     ensures { TellsRun kept.old work.old budget result kept.new work.new }
 {
-    let r = run(kept, work, budget);
-    super::figures::shown(r)
+    RunAnswer::from(run(kept, work, budget))
 }

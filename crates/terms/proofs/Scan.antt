@@ -2,7 +2,7 @@
 use Prim.Native.Nat.{ℕ, zero, suc, ◌+◌, ◌-◌, ◌*◌, ◌/◌, ◌<◌, ◌≤◌}
 use mathlib.Core.Path.{◌≡◌, refl, ap, sym, ◌∙◌, subst}
 use mathlib.Core.List.{List, [], ◌∷◌, map}
-use mathlib.Core.Option.{Option, none, some}
+use Rattle.std.specs.Prelude.{Option, None, Some}
 use native.Mathlib.Omega.{arith}
 use native.Mathlib.Numerals.{add-one}
 use native.Mathlib.Decide.{ℕ_discrete}
@@ -14,10 +14,10 @@ use Rattle.meaning.specs.Bytes.{read, term_row}
 use Rattle.meaning.specs.Terms.{arity, Tree, node, Row, size, sizes, row_of, row_fault, shape, shape_from, unless-bad, blank, kids, trees, top, tree_at, grove}
 use Rattle.meaning.specs.declared.Fault.{Fault}
 use Rattle.meaning.specs.declared.Fault.TheVariants.{Behind, Unfinished}
-use Rattle.meaning.specs.declared.Shape.{Shape}
-use Rattle.meaning.specs.declared.Shape.TheVariants.{Whole, Bad}
+use Rattle.meaning.specs.Terms.{Shape}
+use Rattle.std.specs.Prelude.{Ok, Err}
 use Rattle.meaning.proofs.Trees.Parse.{sizes-split, grove-more, tree-row}
-use Rattle.terms.specs.Tables.{Links, Closed, hop, HopsIn}
+use Rattle.terms.specs.Tables.{Closed, hop, HopsIn}
 
 -- Shape ----------------------------------------------------------------------------------------------------------
 
@@ -25,19 +25,19 @@ module _ (edition count : ℕ) (l : List (List ℕ)) (i owed : ℕ) (r : List �
   front : drop i l ≡ r ∷ drop (i + 1) l
   front = rw (add-one, drop-cons l i []) (ap (λ (x : List ℕ). x ∷ drop (suc i) l) e)
 
-  pub shape-bad : (f : Fault) → some f ≡ row_fault edition count r → shape_from edition count (drop i l) owed i ≡ Bad f i
+  pub shape-bad : (f : Fault) → Some f ≡ row_fault edition count r → shape_from edition count (drop i l) owed i ≡ Err (f, i)
   unfolding shape_from unless-bad
   shape-bad f q = rw front (go owed)
     where
-      go : (k : ℕ) → shape_from edition count (r ∷ drop (i + 1) l) k i ≡ Bad f i
+      go : (k : ℕ) → shape_from edition count (r ∷ drop (i + 1) l) k i ≡ Err (f, i)
       go zero = rw (sym q) refl
       go (suc k) = rw (sym q) refl
 
-  pub shape_behind : none ≡ row_fault edition count r → owed ≡ 0 → shape_from edition count (drop i l) owed i ≡ Bad Behind i
+  pub shape_behind : None ≡ row_fault edition count r → owed ≡ 0 → shape_from edition count (drop i l) owed i ≡ Err (Behind, i)
   unfolding shape_from unless-bad
   shape_behind q z = rw (front, z) (rw (sym q) refl)
 
-  pub shape_on : none ≡ row_fault edition count r → (owed ≡ 0 → ⊥) → shape_from edition count (drop i l) owed i ≡ shape_from edition count (drop (i + 1)
+  pub shape_on : None ≡ row_fault edition count r → (owed ≡ 0 → ⊥) → shape_from edition count (drop i l) owed i ≡ shape_from edition count (drop (i + 1)
       l) (owed - 1 + arity (row_of r).head) (i + 1)
   unfolding shape_from unless-bad
   shape_on q z = rw front (go owed z)
@@ -51,15 +51,15 @@ module _ (edition count : ℕ) (l : List (List ℕ)) (i owed : ℕ) (r : List �
           rw (sym q, c, d) refl
 
 module _ (edition count : ℕ) (l : List (List ℕ)) (i owed : ℕ) (h : length l ≤ i) where
-  pub shape-whole : owed ≡ 0 → shape_from edition count (drop i l) owed i ≡ Whole
+  pub shape-whole : owed ≡ 0 → shape_from edition count (drop i l) owed i ≡ Ok tt
   unfolding shape_from
   shape-whole e = rw (drop_of_length-le l h, e) refl
 
-  pub shape-short : (owed ≡ 0 → ⊥) → shape_from edition count (drop i l) owed i ≡ Bad Unfinished i
+  pub shape-short : (owed ≡ 0 → ⊥) → shape_from edition count (drop i l) owed i ≡ Err (Unfinished, i)
   unfolding shape_from
   shape-short z = rw (drop_of_length-le l h) (go owed z)
     where
-      go : (k : ℕ) → (k ≡ 0 → ⊥) → shape_from edition count [] k i ≡ Bad Unfinished i
+      go : (k : ℕ) → (k ≡ 0 → ⊥) → shape_from edition count [] k i ≡ Err (Unfinished, i)
       go zero n = absurd (n refl)
       go (suc k) n = refl
 
@@ -69,18 +69,18 @@ in_table s i r h e = (omega (arith, row-table-length s), row-table-at s i [] (om
 
 -- Whole tables ---------------------------------------------------------------------------------------------------
 
-unless-whole : (o : Option Fault) (i : ℕ) (s : Shape) → unless-bad o i s ≡ Whole → s ≡ Whole
+unless-whole : (o : Option Fault) (i : ℕ) (s : Shape) → unless-bad o i s ≡ Ok tt → s ≡ Ok tt
 unfolding unless-bad
-unless-whole none i s e = e
-unless-whole (some f) i s e = let z : ◌≡◌ {A = ℕ} 0 1 = cc in absurd (omega arith)
+unless-whole None i s e = e
+unless-whole (Some f) i s e = let z : ◌≡◌ {A = ℕ} 0 1 = cc in absurd (omega arith)
 
-whole-sizes : (edition count : ℕ) (t : List (List ℕ)) (owed i : ℕ) → shape_from edition count t owed i ≡ Whole → sizes (kids owed (trees (map row_of
+whole-sizes : (edition count : ℕ) (t : List (List ℕ)) (owed i : ℕ) → shape_from edition count t owed i ≡ Ok tt → sizes (kids owed (trees (map row_of
     t))) ≡ length t
 unfolding shape_from kids trees size
 whole-sizes edition count [] zero i e = refl
 whole-sizes edition count [] (suc owed) i e = let z : ◌≡◌ {A = ℕ} 0 1 = cc in absurd (omega arith)
 whole-sizes edition count (r ∷ t) zero i e =
-    let q = unless-whole (row_fault edition count r) i (Bad Behind i) e in
+    let q = unless-whole (row_fault edition count r) i (Err (Behind, i)) e in
     let z : ◌≡◌ {A = ℕ} 0 1 = cc in
     absurd (omega arith)
 whole-sizes edition count (r ∷ t) (suc owed) i e =
@@ -89,12 +89,12 @@ whole-sizes edition count (r ∷ t) (suc owed) i e =
     e) in
     omega (arith, sizes-split a owed (trees (map row_of t)))
 
-whole-within : (edition count : ℕ) (t : List (List ℕ)) (owed i : ℕ) → shape_from edition count t owed i ≡ Whole → (j : ℕ) → j < length t → j + size
+whole-within : (edition count : ℕ) (t : List (List ℕ)) (owed i : ℕ) → shape_from edition count t owed i ≡ Ok tt → (j : ℕ) → j < length t → j + size
     (tree_at (map row_of t) j) ≤ length t
 unfolding shape_from kids trees size tree_at top
 whole-within edition count [] owed i e j h = absurd (omega arith)
 whole-within edition count (r ∷ t) zero i e j h =
-    let q = unless-whole (row_fault edition count r) i (Bad Behind i) e in
+    let q = unless-whole (row_fault edition count r) i (Err (Behind, i)) e in
     let z : ◌≡◌ {A = ℕ} 0 1 = cc in
     absurd (omega arith)
 whole-within edition count (r ∷ t) (suc owed) i e zero h =
@@ -109,7 +109,7 @@ whole-within edition count (r ∷ t) (suc owed) i e (suc j) h =
     omega arith
 
 -- WHAT A SHAPE CHECK TELLS: the rows are one tree, and each row's tree ends within them
-pub whole-closed : (edition count : ℕ) (t : List (List ℕ)) → shape edition count t ≡ Whole → Closed (map row_of t) (length t)
+pub whole-closed : (edition count : ℕ) (t : List (List ℕ)) → shape edition count t ≡ Ok tt → Closed (map row_of t) (length t)
 unfolding shape tree_at kids top size blank
 whole-closed edition count t e =
     record { one = sym (first (trees (map row_of t))) ∙ whole-sizes edition count t 1 0 e; within = whole-within edition count t 1 0 e }
@@ -119,7 +119,7 @@ whole-closed edition count t e =
     first (t ∷ ts) = omega arith
 
 -- the same of a table of bytes
-pub bytes-closed : (edition count : ℕ) (s : List ℕ) → shape edition count (row_table s) ≡ Whole → Closed (term_rows s) (length s / 8)
+pub bytes-closed : (edition count : ℕ) (s : List ℕ) → shape edition count (row_table s) ≡ Ok tt → Closed (term_rows s) (length s / 8)
 bytes-closed edition count s e = rw (row-table-length s) at (whole-closed edition count (row_table s) e)
 
 -- Ends -----------------------------------------------------------------------------------------------------------
@@ -191,18 +191,6 @@ module _ (s : List ℕ) (i : ℕ) (r : List ℕ) (h : i < length s / 8) (e : r �
   unfolding size
   size-here = ap size tree-here ∙ omega arith
 
-  -- the children of row i, where the entries behind it are right
-  module _ (closed : Closed (term_rows s) (length s / 8)) (es : List ℕ) (j a : ℕ) (right : EndsFrom (term_rows s) j (length s / 8) es) (next : j ≡ i + 1) (children : a ≡ arity (row_of r
-      ).head) where
-    here : size (tree_at (term_rows s) i) ≡ 1 + sizes (grove (term_rows s) j a)
-    here = size-here ∙ ap (λ (x : ℕ). 1 + sizes (grove (term_rows s) (i + 1) x)) (sym children) ∙ ap (λ (x : ℕ). 1 + sizes (grove (term_rows s) x a)) (sym next)
-
-    pub past-in : length s / 8 ≤ length es → HopsIn es j a
-    past-in k = hops-ends (term_rows s) (length s / 8) j es right j a k (omega arith) (omega (arith, here, closed.within i h))
-
-    pub past-at : hop es j a ≡ i + size (tree_at (term_rows s) i)
-    past-at = hop-ends (term_rows s) (length s / 8) j es right j a (omega arith) (omega (arith, here, closed.within i h)) ∙ omega (arith, here)
-
 -- one row of a walk by the trees still owed
 module _ (l : List Row) (i owed : ℕ) (z : owed ≡ 0 → ⊥) where
   pub owed-some : 1 ≤ sizes (grove l i owed)
@@ -222,19 +210,3 @@ module _ (l : List Row) (i owed : ℕ) (z : owed ≡ 0 → ⊥) where
           let q : suc k - 1 + arity r.head ≡ k + arity r.head = omega arith in
           let p : drop i l ≡ r ∷ drop (suc i) l = drop-cons l i r h ∙ ap (λ (x : Row). x ∷ drop (suc i) l) e in
           rw (add-one, p, q) (omega (arith, sizes-split (arity r.head) k (trees (drop (suc i) l))))
-
--- the same at a table of bytes: a row whose children are counted; and a row with two, of which the first has one row
-pub owed-row : (s : List ℕ) (i owed : ℕ) → (owed ≡ 0 → ⊥) → (r : List ℕ) (a : ℕ) → i < length s / 8 → r ≡ read term_row (drop (8 * i) s) → a ≡ arity (row_of r).head
-    → i + sizes (grove (term_rows s) i owed) ≡ i + 1 + sizes (grove (term_rows s) (i + 1) (owed - 1 + a))
-owed-row s i owed z r a h e q =
-    let g = row-in s i r h e in
-    owed-step (term_rows s) i owed z (row_of r) g.0 g.1 ∙ ap (λ (x : ℕ). i + 1 + sizes (grove (term_rows s) (i + 1) (owed - 1 + x))) (sym q)
-
-pub owed-link : (s : List ℕ) (i owed : ℕ) → (owed ≡ 0 → ⊥) → Links s i → i + sizes (grove (term_rows s) i owed) ≡ i + 2 + sizes (grove (term_rows s) (i + 2) owed)
-owed-link s i owed z k =
-    let more : owed - 1 + 2 ≡ 0 → ⊥ = λ e. omega arith in
-    let left : owed - 1 + 2 - 1 + 0 ≡ owed = omega (arith, z) in
-    let on : i + 1 + 1 ≡ i + 2 = omega arith in
-    owed-row s i owed z _ 2 (omega (arith, k.there)) refl (sym k.two)
-    ∙ owed-row s (i + 1) (owed - 1 + 2) more _ 0 (omega (arith, k.there)) refl (sym k.leaf)
-    ∙ rw (left, on) refl

@@ -1,38 +1,38 @@
--- The children of each kind in a table, the fault that code names of a row, and where the trees of a table end. Assumes nothing.
-use Rattle.std.specs.Prelude.{ℕ, zero, suc, ◌+◌, ◌*◌, ◌≤◌, ◌<◌, ◌≡◌, List, [], ◌∷◌, length, get_or, drop}
-use Rattle.std.proofs.Math.Option.{Option, none, some}
-use Rattle.meaning.specs.Bytes.{read, term_row}
-use Rattle.meaning.specs.declared.Fault.{Fault}
+-- The children of each kind in a table, the ranges of its fields, and where the trees of a table end. Assumes nothing.
+use Rattle.std.specs.Prelude.{ℕ, zero, suc, ◌+◌, ◌≤◌, ◌<◌, ◌≡◌, List, [], ◌∷◌, length, get_or}
+use Rattle.terms.specs.declared.Ranges.{Ranges}
 use Rattle.meaning.specs.Terms.{Row, arity, row_of, size, tree_at}
-use Rattle.terms.specs.declared.Faulty.{Faulty}
-use Rattle.terms.specs.declared.Faulty.TheVariants as variants
 
 -- by kind, how many children a row has, those that n counts not among them; 64 more where n counts children
 abbrev pub child_table : List ℕ
 child_table = 0 ∷ 0 ∷ 0 ∷ 0 ∷ 0 ∷ 0 ∷ 1 ∷ 0 ∷ 65 ∷ 0 ∷ 3 ∷ 1 ∷ 0 ∷ 2 ∷ 1 ∷ 1 ∷ 64 ∷ 1 ∷ 1 ∷ 2 ∷ []
 
 -- by kind, the ranges of n and word that `kind_fields` states
-abbrev pub low_table : List ℕ
-low_table = 0 ∷ 0 ∷ 0 ∷ 0 ∷ 0 ∷ 0 ∷ 0 ∷ 0 ∷ 0 ∷ 0 ∷ 0 ∷ 0 ∷ 0 ∷ 0 ∷ 0 ∷ 1 ∷ 1 ∷ 1 ∷ 1 ∷ 0 ∷ []
+abbrev pub range : ℕ → ℕ → ℕ → ℕ → Ranges
+range low high least most = record { n_least = low; n_most = high; word_least = least; word_most = most }
 
-abbrev pub high_table : List ℕ
-high_table = 0 ∷ 0 ∷ 0 ∷ 0 ∷ 0 ∷ 0 ∷ 0 ∷ 0 ∷ 8 ∷ 0 ∷ 0 ∷ 0 ∷ 0 ∷ 0 ∷ 0 ∷ 255 ∷ 8 ∷ 8 ∷ 8 ∷ 0 ∷ []
+abbrev pub unused : Ranges
+unused = range 0 0 0 0
 
-abbrev pub least_table : List ℕ
-least_table = 0 ∷ 0 ∷ 0 ∷ 0 ∷ 0 ∷ 1 ∷ 0 ∷ 1 ∷ 0 ∷ 1 ∷ 0 ∷ 0 ∷ 0 ∷ 0 ∷ 0 ∷ 0 ∷ 0 ∷ 0 ∷ 0 ∷ 1 ∷ []
+abbrev pub worded : Ranges
+worded = range 0 0 0 4294967295
 
-abbrev pub most_table : List ℕ
-most_table = 0 ∷ 4294967295 ∷ 4294967295 ∷ 0 ∷ 0 ∷ 65535 ∷ 0 ∷ 65535 ∷ 0 ∷ 65535 ∷ 0 ∷ 0 ∷ 0 ∷ 0 ∷ 0 ∷ 0 ∷ 0 ∷ 0 ∷ 0 ∷ 65535 ∷ []
+abbrev pub numbered : Ranges
+numbered = range 0 0 1 65535
+
+abbrev pub counted : ℕ → ℕ → Ranges
+counted low high = range low high 0 0
+
+abbrev pub range_table : List Ranges
+range_table =
+    unused ∷ worded ∷ worded ∷ unused ∷ unused ∷ numbered ∷ unused ∷ numbered ∷ counted 0 8 ∷ numbered
+    ∷ unused ∷ unused ∷ unused ∷ unused ∷ unused ∷ counted 1 255 ∷ counted 1 8 ∷ counted 1 8 ∷ counted 1 8 ∷ numbered ∷ []
 
 -- row i has two children, and the row behind it is there and has none: a cons with a head of one row
-pub record Links (s : List ℕ) (i : ℕ) : Type 0 where
-  pub there : 8 * i + 16 ≤ length s
-  pub two : arity (row_of (read term_row (drop (8 * i) s))).head ≡ 2
-  pub leaf : arity (row_of (read term_row (drop (8 * (i + 1)) s))).head ≡ 0
-
-abbrev pub fault_of : Faulty → Option Fault
-fault_of variants.Sane = none
-fault_of (variants.Faulty f) = some f
+pub record Links (t : List (List ℕ)) (i : ℕ) : Type 0 where
+  pub there : i + 1 < length t
+  pub two : arity (row_of (get_or t i [])).head ≡ 2
+  pub leaf : arity (row_of (get_or t (i + 1) [])).head ≡ 0
 
 -- the rows are one tree, and each row's tree ends within them
 pub record Closed (l : List Row) (rows : ℕ) : Type 0 where

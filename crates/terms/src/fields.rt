@@ -4,6 +4,7 @@ ghost use Rattle.layout.specs.Rows.{numbers};
 ghost use Rattle.meaning.specs.Terms.{fits, words-from, none-used, any_word, a-number, an-n, kind_fields};
 
 use layout::Row;
+use layout::kinds::Kind;
 
 // The greatest word, and the greatest name or number.
 pub const LAST_WORD: u32 = 4294967295;
@@ -11,19 +12,11 @@ pub const LAST_WORD: u32 = 4294967295;
 pub const LAST_NUMBER: u32 = 65535;
 
 // n and word each lie in a range.
+#[tactic(auto, using(crate::proofs::Rules::fields_within_laws))]
 pub fn within(r: Row, low: u8, high: u8, least: u32, most: u32) -> bool
     ensures { result ≡ fits record { n_low = low; n_high = high; words = words-from least most } (numbers r) }
 {
-    if r.n < low {
-        return false;
-    }
-    if high < r.n {
-        return false;
-    }
-    if r.word < least {
-        return false;
-    }
-    r.word <= most
+    low <= r.n && r.n <= high && least <= r.word && r.word <= most
 }
 
 // Neither n nor word is used.
@@ -58,19 +51,12 @@ pub fn counted(r: Row, low: u8, high: u8) -> bool
 pub fn fit(r: Row) -> bool
     ensures { result ≡ fits (get_or kind_fields r.kind none-used) (numbers r) }
 {
-    let k = r.kind;
-    match k {
-        1 => worded(r),
-        2 => worded(r),
-        5 => numbered(r),
-        7 => numbered(r),
-        8 => counted(r, 0, 8),
-        9 => numbered(r),
-        15 => counted(r, 1, 255),
-        16 => counted(r, 1, 8),
-        17 => counted(r, 1, 8),
-        18 => counted(r, 1, 8),
-        19 => numbered(r),
+    match r.kind() {
+        Some(Kind::Text | Kind::File) => worded(r),
+        Some(Kind::Variable | Kind::Foreign | Kind::Future | Kind::Let) => numbered(r),
+        Some(Kind::Apply) => counted(r, 0, 8),
+        Some(Kind::Zip) => counted(r, 1, 255),
+        Some(Kind::Tuple | Kind::Project | Kind::ListProject) => counted(r, 1, 8),
         _ => unused(r),
     }
 }

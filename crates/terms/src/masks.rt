@@ -3,14 +3,9 @@ ghost use Rattle.std.specs.Prelude.{◌≡◌};
 ghost use Rattle.terms.specs.Masks.{bit};
 
 // Bit i of a mask.
+#[tactic(auto, using(crate::proofs::Rules::masks_mask_bit_laws))]
 pub fn mask_bit(m: u8, i: usize) -> bool
     ensures { result ≡ bit m i }
 {
-    let mut x = m;
-    let mut k = i;
-    while 0 < k {
-        x = x / 2;
-        k -= 1;
-    }
-    x % 2 == 1
+    i < 8 && (m >> i) % 2 == 1
 }

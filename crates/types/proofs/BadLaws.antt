@@ -4,7 +4,7 @@ use mathlib.Core.Path.{◌≡◌, refl, ap, sym, ◌∙◌}
 use mathlib.Core.Logic.{inl}
 use mathlib.Core.Bool.{Bool, true, false}
 use mathlib.Core.List.{List, [], ◌∷◌}
-use mathlib.Core.Option.{none, some}
+use Rattle.std.specs.Prelude.{None, Some}
 use native.Mathlib.Omega.{arith}
 use native.Mathlib.Numerals.{add-one}
 use native.Mathlib.Decide.{ℕ_discrete}
@@ -133,7 +133,7 @@ rows_take l (suc n) (suc i) s h = rw (rows_take l n i (drop (width l) s) (omega 
 
 module _ (edition : ℕ) (rows : List (List ℕ)) (i : ℕ) where
   module _ (r : List ℕ) (h : i < length rows) (e : get_or rows i [] ≡ r) where
-    bad-here : type_ok edition (take i rows) r ≡ false → bad_type_from edition (take i rows) (drop i rows) ≡ some i
+    bad-here : type_ok edition (take i rows) r ≡ false → bad_type_from edition (take i rows) (drop i rows) ≡ Some i
     unfolding bad_type_from
     bad-here q = rw (drop-cons rows i [] h, e, q, length-take-le i rows (omega arith))
 
@@ -141,7 +141,7 @@ module _ (edition : ℕ) (rows : List (List ℕ)) (i : ℕ) where
     unfolding bad_type_from
     bad-on q = rw (add-one i, drop-cons rows i [] h, e, q, take-suc rows i [] h, e)
 
-  pub bad-end : length rows ≤ i → bad_type_from edition (take i rows) (drop i rows) ≡ none
+  pub bad-end : length rows ≤ i → bad_type_from edition (take i rows) (drop i rows) ≡ None
   unfolding bad_type_from
   bad-end h = rw (drop_of_length-le rows {i = i} h)
 
@@ -153,13 +153,13 @@ module _ (edition : ℕ) (s : List ℕ) (i : ℕ) (h : i < length s / 36) where
   inside : i < length (type_table s)
   inside = omega (arith, length-reads type_row (length s / 36) s)
 
-  from-here : type_ok edition (rows_before s i) (type_at s i) ≡ false → bad_type_from edition (take i (type_table s)) (drop i (type_table s)) ≡ some i
+  from-here : type_ok edition (rows_before s i) (type_at s i) ≡ false → bad_type_from edition (take i (type_table s)) (drop i (type_table s)) ≡ Some i
   from-here q = bad-here edition (type_table s) i (type_at s i) inside (row_at s (length s / 36) i h) (earlier false q)
 
-  pub bad-own : own_ok edition (form_of (type_table s)) i (type_at s i) ≡ false → bad_type_from edition (take i (type_table s)) (drop i (type_table s)) ≡ some i
+  pub bad-own : own_ok edition (form_of (type_table s)) i (type_at s i) ≡ false → bad_type_from edition (take i (type_table s)) (drop i (type_table s)) ≡ Some i
   bad-own q = from-here (type-bad edition s i (type_at s i) (omega arith) q)
 
-  pub bad-old : fresh (rows_before s i) (type_at s i) ≡ false → bad_type_from edition (take i (type_table s)) (drop i (type_table s)) ≡ some i
+  pub bad-old : fresh (rows_before s i) (type_at s i) ≡ false → bad_type_from edition (take i (type_table s)) (drop i (type_table s)) ≡ Some i
   bad-old q = from-here (type-old edition s i (type_at s i) (omega arith) q)
 
   pub bad-next : own_ok edition (form_of (type_table s)) i (type_at s i) ≡ true → fresh (rows_before s i) (type_at s i) ≡ true → bad_type_from edition (take i (type_table s)) (drop i (type_table s)) ≡ bad_type_from edition (take (i + 1) (type_table s)) (drop (i + 1) (type_table s))

@@ -7,12 +7,13 @@ use native.Mathlib.Omega.{arith}
 use native.Mathlib.Decide.{ℕ_discrete, dec_lt}
 use native.Mathlib.Numerals.{add-one}
 use borrow.Author.Tests.{eq-eqb, ne_eqb, lt-ltb, le-ltb, le-leb, lt-leb}
-use lib.Dec.{eqb}
+use lib.Dec.{eqb, ltb}
 use lib.ListN.{length, drop, get_or, drop_of_length-le, get_or-eq_default}
 use lib.Seq.{drop-cons}
 use Rattle.meaning.specs.Bytes.{◌∧ᵇ◌, within, zeros}
 use Rattle.meaning.specs.Types.{form_no, parts_no, result_no, parts, last_form, every, nonzero, member, distinct, below, plain_ok, list_ok, tuple_ok, names_ok, function_ok, form_fields, fields_ok, same_numbers}
 use Rattle.types.specs.Table.{first_names, first_types, HeadWord, PairWord}
+use Rattle.types.proofs.Laws.{row-length, first-name, first-type, first-names as names-long, first-types as types-long}
 
 pub last-other : (e : ℕ) → (e ≡ 1 → ⊥) → last_form e ≡ 0
 unfolding last_form
@@ -188,6 +189,23 @@ module _ (i : ℕ) (r : List ℕ) (n : ℕ) (g : n ≡ parts_no r) where
           let b : below i v ≡ true = unfold below in lt-ltb v i q in
           rw (← g, le-leb n 8 h, ← e, b, f)
 
+module _ (r : List ℕ) (n : ℕ) (g : n ≡ parts_no r) where
+  pub plain-parts : (n ≡ 0 → ⊥) → plain_ok r ≡ eqb n 0
+  unfolding plain_ok ◌∧ᵇ◌
+  plain-parts q = rw (← g, ne_eqb n 0 q)
+
+  pub plain-result : (v : ℕ) → v ≡ result_no r → n ≡ 0 → plain_ok r ≡ eqb v 0
+  unfolding plain_ok ◌∧ᵇ◌
+  plain-result v e q = rw (← g, eq-eqb n 0 q, ← e)
+
+  pub list-parts : (i : ℕ) → (n ≡ 0 → ⊥) → list_ok i r ≡ eqb n 0
+  unfolding list_ok ◌∧ᵇ◌
+  list-parts i q = rw (← g, ne_eqb n 0 q)
+
+  pub list-result : (i v : ℕ) → v ≡ result_no r → n ≡ 0 → list_ok i r ≡ ltb v i
+  unfolding list_ok below ◌∧ᵇ◌
+  list-result i v e q = rw (← g, eq-eqb n 0 q, ← e)
+
 plain-line : (i : ℕ) (r : List ℕ) (f : ℕ) → 1 ≤ f → f < 4 → get_or (form_fields i r) f false ≡ plain_ok r
 plain-line i r zero h k = absurd (omega arith)
 plain-line i r (suc zero) h k = refl
@@ -281,3 +299,8 @@ module _ (r q : List ℕ) (z : length r ≡ 19) (y : length q ≡ 19) where
     pub pairs_end : 8 ≤ k → same_numbers (drop (3 + 2 * k) r) (drop (3 + 2 * k) q) ≡ true
     unfolding same_numbers
     pairs_end h = rw (drop_of_length-le r {i = 3 + 2 * k} (omega arith), drop_of_length-le q {i = 3 + 2 * k} (omega arith))
+
+-- what the loops over a row's names and types are proved by
+pub ruleset name_steps = (zeros-no, zeros-on, zeros-end, member-yes, member-on, member-end, names-zero, names-twice, names-on, names-end, row-length, names-long, first-name)
+
+pub ruleset part_steps = (below-no, below_on, below_end, row-length, types-long, first-type)

@@ -38,21 +38,13 @@ module _ (form : ℕ → Form) (t : ℕ) (r : List ℕ) (m : form t ≡ form_row
   by_row : (x : Form) → form_row r ≡ x → ground form t ≡ ground_form (part_ground form t) x
   by_row x q = ground-parts form t ∙ ap (ground_form (part_ground form t)) (m ∙ q)
 
-  ground-none : f ≡ 0 → ground form t ≡ false
-  unfolding ground_form
-  ground-none q = by_row _ (row-none r f e q)
-
-  ground-plain : (f ≡ 0 → ⊥) → f < 4 → ground form t ≡ true
+  pub ground-plain : 1 ≤ f → f < 4 → ground form t ≡ true
   unfolding ground_form
   ground-plain n h =
       elim (ℕ_discrete f 1) [
         | yes q ↦ by_row _ (row-str r f e q)
         | no a ↦ elim (ℕ_discrete f 2) [ yes q ↦ by_row _ (row-file r f e q) | no b ↦ by_row _ (row-truth r f e (omega arith)) ]
       ]
-
-  pub ground-low : f < 4 → ground form t ≡ ltb 0 f
-  ground-low h =
-      elim (ℕ_discrete f 0) [ yes q ↦ ground-none q ∙ sym (le-ltb 0 f (omega arith)) | no n ↦ ground-plain n h ∙ sym (lt-ltb 0 f (omega arith)) ]
 
   pub ground-list : f ≡ 4 → ground form t ≡ part_ground form t (result_no r)
   unfolding ground_form
@@ -62,12 +54,15 @@ module _ (form : ℕ → Form) (t : ℕ) (r : List ℕ) (m : form t ≡ form_row
   unfolding ground_form
   ground-tuple q = by_row _ (row-tuple r f e q)
 
-  pub ground-other : 4 ≤ f → (f ≡ 4 → ⊥) → (f ≡ 5 → ⊥) → ground form t ≡ false
+  pub ground-other : (1 ≤ f → 6 ≤ f) → ground form t ≡ false
   unfolding ground_form
-  ground-other h a b =
-      elim (ℕ_discrete f 6) [
-        | yes q ↦ by_row _ (row-native r f e q)
-        | no c ↦ elim (ℕ_discrete f 7) [ yes q ↦ by_row _ (row-foreign r f e q) | no d ↦ by_row _ (row-beyond r f e (omega arith)) ]
+  ground-other h =
+      elim (ℕ_discrete f 0) [
+        | yes q ↦ by_row _ (row-none r f e q)
+        | no n ↦ elim (ℕ_discrete f 6) [
+          | yes q ↦ by_row _ (row-native r f e q)
+          | no c ↦ elim (ℕ_discrete f 7) [ yes q ↦ by_row _ (row-foreign r f e q) | no d ↦ by_row _ (row-beyond r f e (omega arith)) ]
+        ]
       ]
 
 -- a test of all parts from the k-th on, where v is the k-th

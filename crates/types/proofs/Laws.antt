@@ -139,10 +139,6 @@ module _ (r : List ℕ) (z : length r ≡ 19) where
   pub parts-few : length (parts r) ≤ 8
   parts-few = omega (arith, parts-length (parts_no r) refl)
 
-  pub parts_first : (n : ℕ) → n ≡ parts_no r → parts r ≡ take n (pairs (drop 3 r))
-  unfolding parts
-  parts_first n e = rw (← e)
-
   pub part_at : (k : ℕ) (d : Param) → k < length (parts r) → get_or (parts r) k d ≡ record { name = get_or r (3 + 2 * k) 0; type = get_or r (4 + 2 * k) 0 }
   unfolding parts
   part_at k d h =
@@ -151,9 +147,6 @@ module _ (r : List ℕ) (z : length r ≡ 19) where
       get_or-take (parts_no r) (pairs (drop 3 r)) k d (omega arith)
       ∙ pairs-at (drop 3 r) k d (rw length-drop (omega arith))
       ∙ rw (get_or-drop 3 r (2 * k) 0, get_or-drop 3 r (2 * k + 1) 0, e)
-
-  pub part-name : (k : ℕ) → k < length (parts r) → get_or (names (parts r)) k 0 ≡ get_or r (3 + 2 * k) 0
-  part-name k h = names_at (parts r) k blank h ∙ ap (λ (p : Param). p.name) (part_at k blank h)
 
   pub part_type : (k : ℕ) → k < length (parts r) → get_or (types (parts r)) k 0 ≡ get_or r (4 + 2 * k) 0
   part_type k h = types-at (parts r) k blank h ∙ ap (λ (p : Param). p.type) (part_at k blank h)

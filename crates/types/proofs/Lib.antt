@@ -3,3 +3,4 @@ pub mod Checks
 pub mod GroundLaws
 pub mod ChainLaws
 pub mod BadLaws
+pub mod Rules

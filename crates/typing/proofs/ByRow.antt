@@ -1,9 +1,9 @@
 -- What the rows of a table state, and the names that they bind. Assumes nothing.
-use Prim.Native.Nat.{ℕ, zero, suc, ◌+◌, ◌*◌, ◌/◌, ◌<◌, ◌≤◌}
+use Prim.Native.Nat.{ℕ, zero, suc, ◌+◌, ◌-◌, ◌*◌, ◌/◌, ◌<◌, ◌≤◌}
 use mathlib.Core.Path.{◌≡◌, refl, ap, sym, ◌∙◌}
-use mathlib.Core.Bool.{Bool, true, false}
+use mathlib.Core.Bool.{Bool, true, false, cond}
 use mathlib.Core.List.{List, [], ◌∷◌}
-use mathlib.Core.Option.{none, some}
+use Rattle.std.specs.Prelude.{None, Some}
 use native.Mathlib.Omega.{arith}
 use native.Mathlib.Numerals.{add-one}
 use native.Mathlib.Decide.{dec_lt, ℕ_discrete}
@@ -22,6 +22,8 @@ use Rattle.terms.specs.Tables.{Ends}
 use Rattle.terms.proofs.ByKind.{below, head-other}
 use Rattle.terms.proofs.Scan.{tree-here, size-some, grove-size}
 use Rattle.rules.specs.Forms.{three}
+use Rattle.rules.proofs.Finding.{find-empty}
+use Rattle.rules.proofs.ByPart.{types-length, and_first, and_none}
 use Rattle.typing.specs.Scope.{behind, binds, chain}
 use Rattle.typing.proofs.Faults.{chain_more}
 
@@ -161,7 +163,7 @@ module _ (l : List Row) (ts : List ℕ) where
   pub types-lengths : (at n : ℕ) → (length ts ≡ n → ⊥) → same_numbers (list (tys (grove l at n))) ts ≡ false
   types-lengths at n h = numbers-lengths (list (tys (grove l at n))) ts (λ e. h (sym e ∙ list_length (tys (grove l at n))))
 
-  pub types_more : (p k m m' : ℕ) → m ≡ suc m' → k < length ts → same_numbers (list (tys (grove l p m))) (drop k ts)
+  types_more : (p k m m' : ℕ) → m ≡ suc m' → k < length ts → same_numbers (list (tys (grove l p m))) (drop k ts)
       ≡ eqb (ty_of (tree_at l p)) (get_or ts k 0) ∧ᵇ same_numbers (list (tys (grove l (p + size (tree_at l p)) m'))) (drop (k + 1) ts)
   unfolding same_numbers list tys
   types_more p k m m' e h =
@@ -169,9 +171,20 @@ module _ (l : List Row) (ts : List ℕ) where
       ∙ ap (λ (f : Forest (suc m')). same_numbers (list (tys f)) (drop k ts)) (grove-more l p m')
       ∙ rw (add-one, drop-cons ts k 0 h) refl
 
-  pub types-end : (p k m : ℕ) → m ≡ 0 → length ts ≤ k → same_numbers (list (tys (grove l p m))) (drop k ts) ≡ true
+  -- the trees left of n, against the parts from the k-th on
+  pub types_rest : (p n k : ℕ) → k < n → k < length ts → same_numbers (list (tys (grove l p (n - k)))) (drop k ts)
+      ≡ eqb (ty_of (tree_at l p)) (get_or ts k 0) ∧ᵇ same_numbers (list (tys (grove l (p + size (tree_at l p)) (n - (k + 1))))) (drop (k + 1) ts)
+  types_rest p n k h g = types_more p k (n - k) (n - (k + 1)) (omega arith) g
+
+  pub types_over : (p n k : ℕ) → n ≤ k → length ts ≤ k → same_numbers (list (tys (grove l p (n - k)))) (drop k ts) ≡ true
   unfolding same_numbers list tys grove kids
-  types-end p k m e h = rw (e, drop_of_length-le ts h) refl
+  types_over p n k e h = let z : n - k ≡ 0 = omega arith in rw (z, drop_of_length-le ts h) refl
+
+-- the first of the trees left of n, and those behind it
+pub sizes_rest : (l : List Row) (p n k : ℕ) → k < n → sizes (grove l p (n - k)) ≡ size (tree_at l p) + sizes (grove l (p + size (tree_at l p)) (n - (k + 1)))
+sizes_rest l p n k h =
+    let e : n - k ≡ suc (n - (k + 1)) = omega arith in
+    ap (λ (x : ℕ). sizes (grove l p x)) e ∙ grove-size l p (n - (k + 1))
 
 -- the first three children
 pub tys-more : (l : List Row) (p n : ℕ) → tys (grove l p (suc n)) ≡ ty_of (tree_at l p) ▹ tys (grove l (p + size (tree_at l p)) n)
@@ -282,20 +295,33 @@ module _ (F : ℕ → Form) (s : List ℕ) (p k n ty w : ℕ) (h : p < length s 
       ∙ scope-none F (head_from k n w) ty (tys (grove l (p + 1) (arity (head_from k n w)))) 1 (code_at 6 k n w (omega arith) (omega arith) ∙ ne_eqb k 6
       a) (code_at 19 k n w (omega arith) (omega arith) ∙ ne_eqb k 19 b)
 
+pub find-one : (y t x : ℕ) → find (record { name = y; type = t } ∷ []) x ≡ cond (eqb x y) (Some t) None
+unfolding find
+find-one y t x = refl
+
 -- one binder of a chain
 module _ (F : ℕ → Form) (l : List Row) (sc : List ℕ) (low : (p : ℕ) → get_or sc p 0 ≤ p) (v b x : ℕ) (e : v ≡ suc b) where
   at-binder : chain F l sc v v x ≡ pick (find (binds F (tree_at l b)) x) (chain F l sc (get_or sc b 0) (get_or sc b 0) x)
   unfolding ◌⹁◌
   at-binder = ap (λ (v : ℕ). chain F l sc v v x) e ∙ ap (λ (Γ : Ctx). Γ x) (chain_more F l sc b low)
 
-  pub chain-found : (t : ℕ) → some t ≡ find (binds F (tree_at l b)) x → chain F l sc v v x ≡ some t
+  pub chain-found : (t : ℕ) → Some t ≡ find (binds F (tree_at l b)) x → chain F l sc v v x ≡ Some t
   unfolding pick
   chain-found t q = at-binder ∙ rw (sym q) refl
 
-  pub chain_next : none ≡ find (binds F (tree_at l b)) x → chain F l sc v v x ≡ chain F l sc (get_or sc b 0) (get_or sc b 0) x
+  pub chain_next : None ≡ find (binds F (tree_at l b)) x → chain F l sc v v x ≡ chain F l sc (get_or sc b 0) (get_or sc b 0) x
   unfolding pick
   chain_next q = at-binder ∙ rw (sym q) refl
 
-pub chain-none : (F : ℕ → Form) (l : List Row) (sc : List ℕ) (v x : ℕ) → v ≡ 0 → chain F l sc v v x ≡ none
+pub chain-none : (F : ℕ → Form) (l : List Row) (sc : List ℕ) (v x : ℕ) → v ≡ 0 → chain F l sc v v x ≡ None
 unfolding chain empty
 chain-none F l sc v x e = rw e refl
+
+-- WHAT ROWS STATE AND BIND
+pub ruleset rows_state = (type-in, type-out, native-in, native-out)
+
+pub ruleset rows_bind = (binds-native, binds-let, binds-none, find-one, find-empty)
+
+pub ruleset chains = (chain-found, chain_next, chain-none)
+
+pub ruleset types_alike = (types-lengths, types_rest, types_over, types-length, behind-in, size-some, sizes_rest, and_first, and_none)

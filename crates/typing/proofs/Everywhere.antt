@@ -2,7 +2,7 @@
 use mathlib.Core.Path.{◌≡◌, refl, ap, sym, ◌∙◌}
 use mathlib.Core.Bool.{Bool, true, false, not, false≢true}
 use mathlib.Core.List.{List, [], ◌∷◌}
-use mathlib.Core.Option.{Option, none, some}
+use Rattle.std.specs.Prelude.{Option, None, Some}
 use Prim.Native.Nat.{ℕ, zero, suc, ◌+◌, ◌*◌, ◌/◌, ◌<◌}
 use native.Mathlib.Omega.{arith}
 use native.Mathlib.Nat.{add-zero, add-suc}
@@ -20,26 +20,26 @@ use Rattle.meaning.specs.Typing.{tys, scope, stop, later, before, first_bad, fir
 use Rattle.meaning.proofs.Trees.Parse.{sizes-split, tree-at-zero}
 use Rattle.typing.specs.Scope.{judged}
 
-stop-none : (b : Bool) (o : Option ℕ) → stop b o ≡ none → (b ≡ true) × (o ≡ none)
+stop-none : (b : Bool) (o : Option ℕ) → stop b o ≡ None → (b ≡ true) × (o ≡ None)
 unfolding stop
 stop-none true o e = (refl, e)
 stop-none false o e = let z : ◌≡◌ {A = ℕ} 0 1 = cc in absurd (omega arith)
 
-later-none : (n : ℕ) (o : Option ℕ) → later n o ≡ none → o ≡ none
+later-none : (n : ℕ) (o : Option ℕ) → later n o ≡ None → o ≡ None
 unfolding later
-later-none n none e = refl
-later-none n (some i) e = let z : ◌≡◌ {A = ℕ} 0 1 = cc in absurd (omega arith)
+later-none n None e = refl
+later-none n (Some i) e = let z : ◌≡◌ {A = ℕ} 0 1 = cc in absurd (omega arith)
 
-before-none : (o p : Option ℕ) → before o p ≡ none → (o ≡ none) × (p ≡ none)
+before-none : (o p : Option ℕ) → before o p ≡ None → (o ≡ None) × (p ≡ None)
 unfolding before
-before-none none p e = (refl, e)
-before-none (some i) p e = let z : ◌≡◌ {A = ℕ} 0 1 = cc in absurd (omega arith)
+before-none None p e = (refl, e)
+before-none (Some i) p e = let z : ◌≡◌ {A = ℕ} 0 1 = cc in absurd (omega arith)
 
 module _ (form : ℕ → Form) where
   -- no row of a tree fails, below some names
   pub record Good (t : Tree) : Type 0 where
     pub names : Ctx
-    pub right : first_bad form names t ≡ none
+    pub right : first_bad form names t ≡ None
 
   -- the first n trees are such
   GoodN : ℕ → List Tree → Type 0
@@ -47,7 +47,7 @@ module _ (form : ℕ → Form) where
   GoodN (suc n) [] = Unit {0}
   GoodN (suc n) (t ∷ ts) = Good t × GoodN n ts
 
-  children-good : (Γ : Ctx) (s : ℕ → List Param) (n : ℕ) (ts : List Tree) → first_bads form Γ s (kids n ts) ≡ none → GoodN n ts
+  children-good : (Γ : Ctx) (s : ℕ → List Param) (n : ℕ) (ts : List Tree) → first_bads form Γ s (kids n ts) ≡ None → GoodN n ts
   unfolding GoodN first_bads kids
   children-good Γ s zero ts e = tt
   children-good Γ s (suc n) [] e = tt
@@ -82,19 +82,19 @@ module _ (form : ℕ → Form) where
   first-size [] = refl
   first-size (t ∷ ts) = omega arith
 
-  first_good : (Γ : Ctx) (ts : List Tree) → first_bad form Γ (top ts) ≡ none → GoodN 1 ts
+  first_good : (Γ : Ctx) (ts : List Tree) → first_bad form Γ (top ts) ≡ None → GoodN 1 ts
   unfolding GoodN top
   first_good Γ [] e = tt
   first_good Γ (t ∷ ts) e = (record { names = Γ; right = e }, tt)
 
   -- EACH ROW of a tree none of whose rows fails
-  pub each_row : (l : List Row) (Γ : Ctx) (i : ℕ) → first_bad form Γ (tree_of l) ≡ none → size (tree_at l 0) ≡ length l → i < length l → Keeps (tree_at l i)
+  pub each_row : (l : List Row) (Γ : Ctx) (i : ℕ) → first_bad form Γ (tree_of l) ≡ None → size (tree_at l 0) ≡ length l → i < length l → Keeps (tree_at l i)
   unfolding tree_at
   each_row l Γ i e w h = everywhere l 1 i (first_good Γ (trees l) (ap (first_bad form Γ) (tree-at-zero l) ∙ e)) h (omega (arith, first-size (trees l), w))
 
 -- so a row that breaks its rule, and that is no variable, shows that one fails
-pub row-wrong : (s b : List ℕ) (i k n ty w : ℕ) → i < length b / 8 → k ∷ n ∷ ty ∷ w ∷ [] ≡ read term_row (drop (8 * i) b) → (k ≡ 5 → ⊥) → Closed (term_rows b) (length b / 8)
-    → (x : Bool) → x ≡ judged (forms s) empty (tree_at (term_rows b) i) → not x ≡ true → first_bad (forms s) empty (tree_of (term_rows b)) ≡ none → ⊥
+pub row-wrong : (s : List (List ℕ)) (b : List ℕ) (i k n ty w : ℕ) → i < length b / 8 → k ∷ n ∷ ty ∷ w ∷ [] ≡ read term_row (drop (8 * i) b) → (k ≡ 5 → ⊥) → Closed (term_rows b) (length b / 8)
+    → (x : Bool) → x ≡ judged (forms s) empty (tree_at (term_rows b) i) → not x ≡ true → first_bad (forms s) empty (tree_of (term_rows b)) ≡ None → ⊥
 row-wrong s b i k n ty w h e v closed x xe nx g =
     let r = row-in b i (k ∷ n ∷ ty ∷ w ∷ []) h e in
     let l = term_rows b in

@@ -3,8 +3,8 @@ use mathlib.Core.Path.{◌≡◌, refl, ap, sym, ◌∙◌}
 use mathlib.Core.Logic.{⊎_elim}
 use mathlib.Core.Bool.{true, false}
 use mathlib.Core.List.{List, []}
-use mathlib.Core.Option.{Option, none, some}
-use Prim.Native.Nat.{ℕ, zero, suc, ◌+◌, ◌≤◌, ◌<◌}
+use Rattle.std.specs.Prelude.{Option, None, Some}
+use Prim.Native.Nat.{ℕ, zero, suc, ◌+◌, ◌-◌, ◌≤◌, ◌<◌}
 use native.Mathlib.Omega.{arith}
 use native.Mathlib.Numerals.{add-one}
 use native.Mathlib.Nat.{add-zero, zero-add, add-suc}
@@ -19,18 +19,18 @@ use Rattle.typing.specs.Scope.{binds, chain, around, walk, hand_on, Low, Inner}
 
 later-add : (a b : ℕ) (o : Option ℕ) → later a (later b o) ≡ later (a + b) o
 unfolding later
-later-add a b none = refl
-later-add a b (some n) = let q : a + (b + n) ≡ a + b + n = omega arith in ap some q
+later-add a b None = refl
+later-add a b (Some n) = let q : a + (b + n) ≡ a + b + n = omega arith in ap Some q
 
 later-before : (a : ℕ) (o p : Option ℕ) → later a (before o p) ≡ before (later a o) (later a p)
 unfolding later before
-later-before a none p = refl
-later-before a (some n) p = refl
+later-before a None p = refl
+later-before a (Some n) p = refl
 
 before-before : (o p q : Option ℕ) → before (before o p) q ≡ before o (before p q)
 unfolding before
-before-before none p q = refl
-before-before (some n) p q = refl
+before-before None p q = refl
+before-before (Some n) p q = refl
 
 size-some : (t : Tree) → 1 ≤ size t
 unfolding size
@@ -103,13 +103,14 @@ module _ (l : List Row) (v : ℕ → ℕ) where
       hand-after (suc k) m (j + size (tree_at l j)) p (set sc j (v k)) (omega arith)
       ∙ get_or-set_other sc j p (v k) 0 (λ q. omega (arith, size-some (tree_at l j)))
 
-  pub hand-more : (k m m' j : ℕ) (sc : List ℕ) → m ≡ suc m' → hand_on l v k m j sc ≡ hand_on l v (k + 1) m' (j + size (tree_at l j)) (set sc j (v k))
+  -- the trees left of n, from the k-th value on
+  pub hand_rest : (n k j : ℕ) (sc : List ℕ) → k < n → hand_on l v k (n - k) j sc ≡ hand_on l v (k + 1) (n - (k + 1)) (j + size (tree_at l j)) (set sc j (v k))
   unfolding hand_on
-  hand-more k m m' j sc e = rw (e, add-one k) refl
+  hand_rest n k j sc h = let e : n - k ≡ suc (n - (k + 1)) = omega arith in rw (e, add-one k) refl
 
-  pub hand-none : (k m j : ℕ) (sc : List ℕ) → m ≡ 0 → hand_on l v k m j sc ≡ sc
+  pub hand_over : (n k j : ℕ) (sc : List ℕ) → n ≤ k → hand_on l v k (n - k) j sc ≡ sc
   unfolding hand_on
-  hand-none k m j sc e = rw e refl
+  hand_over n k j sc h = let e : n - k ≡ 0 = omega arith in rw e refl
 
   pub hand-length : (k m j : ℕ) (sc : List ℕ) → length (hand_on l v k m j sc) ≡ length sc
   unfolding hand_on
@@ -171,10 +172,10 @@ module _ (form : ℕ → Form) (l : List Row) where
 
   -- a row that fails, the first of suc n trees
   module _ (sc : List ℕ) (i n : ℕ) (r : Row) (h : i < length l) (e : get_or l i r ≡ r) where
-    pub walk_here : row_ok form (around form l sc i) r.head r.type (grove l (i + 1) (arity r.head)) ≡ false → walk form l sc (suc n) i ≡ some
+    pub walk_here : row_ok form (around form l sc i) r.head r.type (grove l (i + 1) (arity r.head)) ≡ false → walk form l sc (suc n) i ≡ Some
         i
     unfolding walk first_bad stop later before
-    walk_here q = rw (tree-row l i r r h e) (rw q (ap some (add-zero i)))
+    walk_here q = rw (tree-row l i r r h e) (rw q (ap Some (add-zero i)))
 
     -- a row that stands: its children are owed, below the binders that the array now has for them
     module _ (w : Low sc i) (v : ℕ → ℕ) (fits : i + 1 + sizes (grove l (i + 1) (arity r.head)) ≤ length sc) (inner : (q : ℕ) → Inner form r.head
@@ -235,17 +236,17 @@ module _ (form : ℕ → Form) (l : List Row) where
           (hands v Γ s 0 (arity r.head) (i + 1) sc handed refl fits (λ p. ap (λ (x : ℕ). chain form l handed (v x) (v x)) (zero-add p) ∙
           inner-means p))))
 
-  alone : (o : Option ℕ) → before (later 0 o) none ≡ o
+  alone : (o : Option ℕ) → before (later 0 o) None ≡ o
   unfolding before later
-  alone none = refl
-  alone (some n) = ap some (zero-add n)
+  alone None = refl
+  alone (Some n) = ap Some (zero-add n)
 
   -- the whole tree, and no tree
   pub walk-all : (sc : List ℕ) → get_or sc 0 0 ≡ 0 → walk form l sc 1 0 ≡ first_bad form empty (tree_at l 0)
   unfolding walk chain
   walk-all sc e = rw e (alone (first_bad form empty (tree_at l 0)))
 
-  pub walk_none : (sc : List ℕ) (i n : ℕ) → n ≡ 0 → walk form l sc n i ≡ none
+  pub walk_none : (sc : List ℕ) (i n : ℕ) → n ≡ 0 → walk form l sc n i ≡ None
   unfolding walk
   walk_none sc i zero e = refl
   walk_none sc i (suc n) e = absurd (omega arith)

@@ -8,6 +8,9 @@ use native.Mathlib.Omega.{arith}
 use native.Mathlib.Numerals.{add-one}
 use native.Mathlib.Decide.{ℕ_discrete}
 use lib.Dec.{eqb}
+use Rattle.std.specs.Prelude.{Option, None, Some}
+use Rattle.std.specs.Option.{option_eq}
+use Rattle.rules.proofs.ByPart.{and_first, and_none}
 use borrow.Author.Tests.{ne_eqb}
 use lib.ListN.{length, drop}
 use Rattle.meaning.specs.Bytes.{◌∧ᵇ◌, read, term_row}
@@ -19,7 +22,8 @@ use Rattle.terms.specs.Tables.{Closed, Ends}
 use Rattle.terms.proofs.ByKind.{arity-few}
 use Rattle.terms.proofs.Scan.{size-here, size-some, grove-size}
 use Rattle.layout.specs.Rows.{term_rows}
-use Rattle.rules.specs.Forms.{says, forms, part_types, is_function, three, FixedKind}
+use Rattle.rules.specs.Forms.{forms, three, FixedKind}
+use Rattle.layout.specs.Forms.{says, part_types, is_function}
 use Rattle.typing.specs.Scope.{behind, judged, inner_of, Inner}
 use Rattle.rules.proofs.ByRule.{and-true, and_comm, rule-apply, rule-tuple}
 use Rattle.typing.proofs.ByRow.{code_at, tree-in, numbers-comm, tys-more, tys-none, tys-three, rule-any, scope-none, behind-in}
@@ -29,7 +33,7 @@ unfolding three
 no-types l j zero x y z e = tys-none l j
 no-types l j (suc n) x y z e = absurd (omega arith)
 
-module _ (s b : List ℕ) (i k n ty w : ℕ) (h : i < length b / 8) (e : k ∷ n ∷ ty ∷ w ∷ [] ≡ read term_row (drop (8 * i) b)) where
+module _ (s : List (List ℕ)) (b : List ℕ) (i k n ty w : ℕ) (h : i < length b / 8) (e : k ∷ n ∷ ty ∷ w ∷ [] ≡ read term_row (drop (8 * i) b)) where
   abbrev F : ℕ → Form
   F = forms s
 
@@ -146,7 +150,7 @@ module _ (s b : List ℕ) (i k n ty w : ℕ) (h : i < length b / 8) (e : k ∷ n
       ) refl)
 
   pub judged-leaf : (x y z : ℕ) → FixedKind k → arity (head_from k n w) ≡ 0 → judged F empty (tree_at l i) ≡ rule_ok F empty (head_from k n w) ty (three (arity (head_from k n w)) x y z)
-  judged-leaf x y z f none = judged-plain empty f.no-fix ∙ ap (rule_ok F empty (head_from k n w) ty) (no-types l (i + 1) (arity (head_from k n w)) x y z none)
+  judged-leaf x y z f bare = judged-plain empty f.no-fix ∙ ap (rule_ok F empty (head_from k n w) ty) (no-types l (i + 1) (arity (head_from k n w)) x y z bare)
 
 -- Binders --------------------------------------------------------------------------------------------------------
 
@@ -177,3 +181,14 @@ inner-right F n w ty outer i k =
         )
       ]
     ]
+
+-- the type that a name has is a given one
+pub same-given : (o : Option ℕ) (t : ℕ) → option_eq eqb o (Some t) ≡ given o t
+unfolding given
+same-given None t = refl
+same-given (Some u) t = refl
+
+-- THE RULE OF A ROW, BY ITS KIND
+pub ruleset rows_judged = (judged-variable, judged-apply, arguments-in, arguments-at, judged-tuple, elements-in, judged-fix, judged-other, judged-leaf, and_first, and_none, same-given)
+
+pub ruleset rows_alike = (judged-any)

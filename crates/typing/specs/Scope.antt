@@ -1,7 +1,7 @@
 -- What names mean at each row, by an array that has for each row the innermost binder around it: its row and one, or 0 where there is none.
 -- Assumes nothing.
 use Rattle.std.specs.Prelude.{ℕ, zero, suc, ◌+◌, ◌/◌, ◌≤◌, ◌≡◌, ◌⊎◌, Bool, cond, List, [], eqb, ltb, length, get_or, set}
-use Rattle.std.proofs.Math.Option.{Option, none}
+use Rattle.std.specs.Prelude.{Option, None}
 use Rattle.terms.specs.Tables.{Closed, Ends}
 use Rattle.layout.specs.Rows.{term_rows}
 use Rattle.meaning.specs.Types.{Form, Param, Ctx, empty, ◌⹁◌}
@@ -25,7 +25,7 @@ module _ (form : ℕ → Form) (l : List Row) where
 
   -- the first row that fails in the n trees from row i on, each below the binders that the array has for it
   unfoldable pub walk : List ℕ → ℕ → ℕ → Option ℕ
-  walk sc zero i = none
+  walk sc zero i = None
   walk sc (suc n) i = before (later i (first_bad form (around sc i) (tree_at l i))) (walk sc n (i + size (tree_at l i)))
 
 -- the array with the values from v k on written for the m trees from row j on
@@ -37,6 +37,11 @@ hand_on l v k (suc m) j sc = hand_on l v (suc k) m (j + size (tree_at l j)) (set
 pub record Low (sc : List ℕ) (i : ℕ) : Type 0 where
   pub own : (p : ℕ) → get_or sc p 0 ≤ p
   pub all : (p : ℕ) → get_or sc p 0 ≤ i
+
+-- the array has an entry for each row, and none that names a row behind row i
+pub record Binders (b sc : List ℕ) (i : ℕ) : Type 0 where
+  pub room : length b / 8 ≤ length sc
+  pub low : Low sc i
 
 -- the value for the q-th child of row i: the row's own binder where the row binds nothing there, else the row
 abbrev pub Inner : (ℕ → Form) → (h : Head) → ℕ → Tys (arity h) → ℕ → ℕ → (ℕ → ℕ) → ℕ → Type 0

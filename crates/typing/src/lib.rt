@@ -4,53 +4,57 @@
 mod names;
 mod scopes;
 pub mod stated;
+mod tree;
 
 ghost use Rattle.std.specs.Prelude.{◌≡◌, true, ◌/◌, ◌≤◌, length};
-ghost use Rattle.std.proofs.Math.Option.{none};
-ghost use Rattle.layout.specs.Rows.{found, type_table, term_rows};
+ghost use Rattle.std.specs.Prelude.{None};
+ghost use Rattle.layout.specs.Rows.{type_table, term_rows};
 ghost use Rattle.terms.specs.Tables.{Closed};
 ghost use Rattle.meaning.specs.Types.{form_of, empty};
 ghost use Rattle.meaning.specs.Terms.{tree_of};
 ghost use Rattle.meaning.specs.Typing.{first_bad};
 ghost use Rattle.rules.specs.Forms.{forms};
-ghost use Rattle.typing.specs.Scope.{walk, Low, Ready};
+ghost use Rattle.typing.specs.Scope.{walk, Binders};
 
-use layout::Found;
+use layout::kinds::Kind;
+use layout::views::Types;
+use tree::Tree;
 
 // The first row that fails in the tree at row 0, below no binder. The array is filled from the root down with the innermost binder
 // around each row.
-fn judge(types: &[u8], rows: &[u8], ends: &[u16], scope: &mut [u16]) -> Found
-    requires { Ready rows.now ends.now × (length rows.now / 8 ≤ length scope.old) × (length rows.now ≤ 16384) × Low scope.old 0 }
-    ensures { found result ≡ walk (forms types.now) (term_rows rows.now) scope.old 1 0 }
+#[tactic(auto, using(crate::proofs::Walking::rows_walked))]
+fn judge(tree: &Tree, scope: &mut [u16]) -> Option<u32>
+    requires { Binders tree.now.rows.now scope.old 0 }
+    ensures { result ≡ walk (forms tree.now.types.now) (term_rows tree.now.rows.now) scope.old 1 0 }
 {
-    let mut owed: usize = 1;
-    let mut i: usize = 0;
-    while 0 < owed {
-        if scopes::row_ok(types, rows, ends, scope, i) {
-            owed = owed - 1 + terms::children(layout::row_at(rows, i));
-            scopes::hand_on(rows, ends, scope, i);
-            i += 1;
-        } else {
-            return Found::At(i as u32);
+    for i in 0..layout::term_rows(tree.rows) {
+        if !tree.row_ok(scope, i) {
+            return Some(i as u32);
         }
+        tree.hand_on(scope, i);
     }
-    Found::Nothing
+    None
 }
 
 // Refusals 9 and 15: the first row that fails typing.
-pub fn first_bad(types: &[u8], rows: &[u8]) -> Found
+pub fn first_bad(types: &Types, rows: &[u8]) -> Option<u32>
     requires { (length rows.now ≤ 16384) × Closed (term_rows rows.now) (length rows.now / 8) }
-    ensures { found result ≡ first_bad (form_of (type_table types.now)) empty (tree_of (term_rows rows.now)) }
+    ensures { result ≡ first_bad (form_of types.now) empty (tree_of (term_rows rows.now)) }
 {
     let mut ends = [0u16; 2048];
     terms::ends(rows, &mut ends);
     let mut scope = [0u16; 2048];
-    judge(types, rows, &ends, &mut scope)
+    let tree = Tree {
+        types,
+        rows,
+        ends: &ends,
+    };
+    judge(&tree, &mut scope)
 }
 
 // Whether row i, which has no children, is seen by itself to fail typing, if the rows are one tree.
-pub fn leaf_fails(types: &[u8], rows: &[u8], i: usize) -> bool
-    ensures { result ≡ true → Closed (term_rows rows.now) (length rows.now / 8) → first_bad (form_of (type_table types.now)) empty (tree_of (term_rows rows.now)) ≡ none → ⊥ }
+pub fn leaf_fails(types: &Types, rows: &[u8], i: usize) -> bool
+    ensures { result ≡ true → Closed (term_rows rows.now) (length rows.now / 8) → first_bad (form_of types.now) empty (tree_of (term_rows rows.now)) ≡ None → ⊥ }
 {
     if layout::term_rows(rows) <= i {
         return false;
@@ -59,12 +63,8 @@ pub fn leaf_fails(types: &[u8], rows: &[u8], i: usize) -> bool
     if terms::children(r) != 0 {
         return false;
     }
-    let k = r.kind;
-    match k {
-        5 => false,
-        8 => false,
-        11 => false,
-        16 => false,
+    match r.kind() {
+        Some(Kind::Variable | Kind::Apply | Kind::Fix | Kind::Tuple) => false,
         _ => !scopes::leaf_ok(types, rows, i),
     }
 }

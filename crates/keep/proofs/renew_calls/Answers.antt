@@ -26,10 +26,7 @@ store-requires c =
     let a = c.calls_at-from.ensures in
     let b = c.rows_at-to.ensures in
     let n = part-long c.args.kept.now c.calls_at-from.result (c.rows_at-to.result - c.calls_at-from.result) (omega arith) in
-    (c.requires.1, omega arith)
-
-pub overflow_cast-calls : goal.overflow_cast-calls
-overflow_cast-calls c = let p = c.requires.1 in omega arith
+    omega arith
 
 pub put16_at-requires : goal.put16_at-requires
 put16_at-requires c =
@@ -42,9 +39,6 @@ put32_at-requires c =
     let z = sizes (board c.args.m) in
     let l = same_len_mid c.calls_at-from.result (c.rows_at-to.result - c.calls_at-from.result) c.args.kept.now c.store.new.calls c.store.auto.calls in
     omega (arith, c.requires.0, c.put16_at.auto.buf)
-
-pub shape_of-kept : goal.shape_of-kept
-shape_of-kept c = c.put32_at.auto.buf ∙ c.put16_at.auto.buf ∙ same_len_mid c.calls_at-from.result (c.rows_at-to.result - c.calls_at-from.result) c.args.kept.now c.store.new.calls c.store.auto.calls
 
 pub returns : goal.returns
 returns c es li =

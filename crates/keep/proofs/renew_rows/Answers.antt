@@ -17,8 +17,5 @@ clear-requires c = let z = sizes (board c.args.m) in omega (arith, c.rows_at.ens
 pub put16_at-requires : goal.put16_at-requires
 put16_at-requires c = let z = sizes (board c.args.m) in omega (arith, c.clear.auto.dst)
 
-pub shape_of-kept : goal.shape_of-kept
-shape_of-kept c = c.put16_at.auto.buf ∙ c.clear.auto.dst
-
 pub returns : goal.returns
 returns c = rows-renewed (board c.args.m) c.args.kept.now _ _ c.args.rows c.requires.0 c.requires.1 (c.clear.ensures ∙ ap (λ (a : ℕ). take (a + 8 * c.args.rows) c.args.kept.now ++ (replicate (length c.args.kept.now - (a + 8 * c.args.rows)) 0 ++ drop (length c.args.kept.now) c.args.kept.now)) c.rows_at.ensures) c.put16_at.ensures

@@ -3,7 +3,7 @@ use Prim.Native.Nat.{ℕ, ◌+◌, ◌*◌, ◌≤◌, ◌<◌}
 use mathlib.Core.Path.{◌≡◌, refl, ap, sym, ◌∙◌}
 use mathlib.Core.Bool.{Bool, true, false, not, false≢true}
 use mathlib.Core.List.{List, [], ◌∷◌, ◌++◌, map, append_assoc, append-nil}
-use mathlib.Core.Option.{none}
+use Rattle.std.specs.Prelude.{None}
 use native.Mathlib.Omega.{arith}
 use lib.Dec.{eqb}
 use lib.ListN.{length, take, drop, get_or, length-append, length-drop, length-map, take-append-drop}
@@ -17,7 +17,7 @@ use Rattle.meaning.specs.Steps.{Call}
 use Rattle.meaning.specs.Records.{version, rises, listed}
 use Rattle.meaning.specs.Entries.{reply_tree, LegalFile, file_no, file_type_count, file_row_count, file_types, file_rows, file_tree, no_future, load_verdict, loaded_state, reply_no, reply_number, reply_count, reply_rows, reply_head_ok, letter_of}
 use Rattle.meaning.specs.declared.Refusal.TheVariants.{Typing}
-use Rattle.meaning.specs.declared.Verdict.TheVariants.{Accepted}
+use Rattle.std.specs.Prelude.{Ok}
 use Rattle.meaning.proofs.Trees.Tests.{none-some, both, left, right, eq-same, within_of}
 use Rattle.meaning.proofs.Trees.Parse.{length-flat, tree-of-flat}
 use Rattle.meaning.proofs.Typing.FirstBad.{typed-if, typed-of}
@@ -310,7 +310,7 @@ module _ (m : Limits) (file : List ℕ) (l : LegalFile m file) where
         program = refl;
       }
 
-pub loaded-good : (m : Limits) (file : List ℕ) (room : ℕ) → load_verdict m file room ≡ Accepted → AllBytes file → m.program_rows ≤ m.rows → Good m (loaded_state file)
+pub loaded-good : (m : Limits) (file : List ℕ) (room : ℕ) → load_verdict m file room ≡ Ok tt → AllBytes file → m.program_rows ≤ m.rows → Good m (loaded_state file)
 loaded-good m file room e bytes h =
     let (_, l, k) = accepted-legal m file room e in
     legal-good m file l (typed-if (form_of (file_types file)) empty (file_tree file) k) bytes h
@@ -320,7 +320,7 @@ pub record Program (m : Limits) (ts : List (List ℕ)) (t : Tree) : Type 0 where
   pub types_some : 1 ≤ length ts
   pub types_many : length ts ≤ m.types
   pub types_wide : AllFit type_row ts
-  pub types_pass : bad_type version ts ≡ none
+  pub types_pass : bad_type version ts ≡ None
   pub rows_many : size t ≤ m.program_rows
   pub legal_rows : Every (legal (length ts)) t
   pub calm : Listed (listed []) t
@@ -377,7 +377,7 @@ module _ (m : Limits) (ts : List (List ℕ)) (t : Tree) (types_few : m.types ≤
         no-future = rw rs (all_pass no_future _ (calm-rows (flat t) (every-rows _ t program.calm)));
       }
 
-  pub program-accepted : load_verdict m (file_of ts (map raw (flat t))) (record_bytes m) ≡ Accepted
+  pub program-accepted : load_verdict m (file_of ts (map raw (flat t))) (record_bytes m) ≡ Ok tt
   program-accepted =
       legal-verdict m _ program-legal
-      ∙ refuse-pass _ Typing Accepted (rw (program-types, program-tree) (typed-of (form_of ts) empty t program.typed))
+      ∙ refuse-pass _ Typing (Ok tt) (rw (program-types, program-tree) (typed-of (form_of ts) empty t program.typed))

@@ -3,7 +3,7 @@ use Prim.Native.Nat.{ℕ, suc, ◌+◌, ◌*◌, ◌-◌, ◌≤◌, ◌<◌}
 use mathlib.Core.Path.{◌≡◌, refl, ap, sym, ◌∙◌}
 use mathlib.Core.Bool.{Bool, true, false, cond, false≢true}
 use mathlib.Core.List.{List, [], ◌∷◌, ◌++◌, map, append_assoc, append-nil}
-use mathlib.Core.Option.{Option, none, some}
+use Rattle.std.specs.Prelude.{Option, None, Some}
 use native.Mathlib.Omega.{arith}
 use native.Mathlib.Nat.{mul-sub, mul-le-mul_left}
 use native.Mathlib.Decide.{dec_lt}
@@ -16,8 +16,8 @@ use Rattle.meaning.specs.Types.{Form, form_of, ground, bad_type, empty}
 use Rattle.meaning.specs.Terms.{Head, Tree, node, head_of, ty_of, Row, flat, size, code, word_of, Fields, none-used, kind_fields, raw, row_of, shape, tree_of}
 use Rattle.meaning.specs.Typing.{given, Typed, first_bad}
 use Rattle.meaning.specs.Records.{State, Entry, version, record_mark, raw_entry, head_numbers, record_of, head_no, record_edition, type_count, row_count, open_count, next_number, program_type, types_in, entries_in, rows_in, entry_of, state_of, first_not, nothing, is_whole, head_sound, unused, space_sound, types_sound, shape_sound, term_sound, rises, entry_sound, calls_sound, listed, future_listed, futures_sound, program_sound, sound}
-use Rattle.meaning.specs.declared.Shape.{Shape}
-use Rattle.meaning.specs.declared.Shape.TheVariants.{Whole, Bad}
+use Rattle.meaning.specs.Terms.{Shape}
+use Rattle.std.specs.Prelude.{Ok, Err}
 use Rattle.meaning.proofs.Trees.Tests.{both, left, right, eq-same, none-some, within-if, within_of, numbers-is, numbers-same}
 use Rattle.meaning.proofs.Trees.Parse.{length-flat, tree-of-flat}
 use Rattle.meaning.proofs.Typing.FirstBad.{given_is, given-of, typed-if, typed-of}
@@ -74,7 +74,7 @@ pub record Good (m : Limits) (s : State) : Type 0 where
   pub types_some : 1 ≤ length s.types
   pub types_many : length s.types ≤ m.types
   pub types_wide : AllFit type_row s.types
-  pub types_pass : bad_type version s.types ≡ none
+  pub types_pass : bad_type version s.types ≡ None
   pub rows_many : size s.tree ≤ m.rows
   pub legal_rows : Every (legal (length s.types)) s.tree
   pub typed : Typed (form_of s.types) empty s.tree
@@ -91,16 +91,16 @@ pub record Good (m : Limits) (s : State) : Type 0 where
 
 -- no test fails
 module _ {A : Type 0} (p : A → Bool) where
-  pub none-fails : (xs : List A) → first_not p xs ≡ none → Each (λ x. p x ≡ true) xs
+  pub none-fails : (xs : List A) → first_not p xs ≡ None → Each (λ x. p x ≡ true) xs
   unfolding first_not Each
   none-fails [] e = tt
   none-fails (x ∷ xs) e = let (a, b) = passes (p x) _ 0 e in (a, none-fails xs (none-later (first_not p xs) b))
     where
-      none-later : (o : Option ℕ) → ◌≡◌ {A = Option ℕ} (elim o [ none ↦ none | some i ↦ some (suc i) ]) none → o ≡ none
-      none-later none e = refl
-      none-later (some i) e = absurd (none-some (suc i) (sym e))
+      none-later : (o : Option ℕ) → ◌≡◌ {A = Option ℕ} (elim o [ None ↦ None | Some i ↦ Some (suc i) ]) None → o ≡ None
+      none-later None e = refl
+      none-later (Some i) e = absurd (none-some (suc i) (sym e))
 
-  pub all_pass : (xs : List A) → Each (λ x. p x ≡ true) xs → first_not p xs ≡ none
+  pub all_pass : (xs : List A) → Each (λ x. p x ≡ true) xs → first_not p xs ≡ None
   unfolding first_not Each
   all_pass [] d = refl
   all_pass (x ∷ xs) (e, d) = rw (e, all_pass xs d) refl
@@ -129,10 +129,10 @@ rows_fit count [] h d = tt
 rows_fit count (r ∷ l) h (e, d) = (row_fits count r h e, rows_fit count l h d)
 
 -- a ground type stands in the table
-pub ground-stands : (rows : List (List ℕ)) → bad_type version rows ≡ none → (t : ℕ) → ground (form_of rows) t ≡ true → t < length rows
+pub ground-stands : (rows : List (List ℕ)) → bad_type version rows ≡ None → (t : ℕ) → ground (form_of rows) t ≡ true → t < length rows
 ground-stands rows e t g = elim (dec_lt t (length rows)) [ yes h ↦ h | no h ↦ absurd (ground-known (form_of rows) t g ((promised rows e).beyond t (omega arith))) ]
 
-entries_fit : (rows : List (List ℕ)) (calls : List Entry) (next : ℕ) → bad_type version rows ≡ none → length rows ≤ 65535 → next < 4294967296
+entries_fit : (rows : List (List ℕ)) (calls : List Entry) (next : ℕ) → bad_type version rows ≡ None → length rows ≤ 65535 → next < 4294967296
     → Each (λ e. e.number < next) calls → Each (λ e. ground (form_of rows) e.type ≡ true) calls → AllFit entry_row (map raw_entry calls)
 unfolding Each Fits pow256 raw_entry
 entries_fit rows [] next p h k a b = tt
@@ -173,15 +173,15 @@ size-some (node h u f) = omega arith
 
 -- The state of a sound record ------------------------------------------------------------------------------------
 
-nothing_is : (o : Option ℕ) → nothing o ≡ true → o ≡ none
+nothing_is : (o : Option ℕ) → nothing o ≡ true → o ≡ None
 unfolding nothing
-nothing_is none e = refl
-nothing_is (some i) e = absurd (false≢true e)
+nothing_is None e = refl
+nothing_is (Some i) e = absurd (false≢true e)
 
-whole_is : (s : Shape) → is_whole s ≡ true → s ≡ Whole
+whole_is : (s : Shape) → is_whole s ≡ true → s ≡ Ok tt
 unfolding is_whole
-whole_is Whole e = refl
-whole_is (Bad f i) e = absurd (false≢true e)
+whole_is (Ok tt) e = refl
+whole_is (Err (f, i)) e = absurd (false≢true e)
 
 entries-back : (form : ℕ → Form) (next : ℕ) (es : List (List ℕ)) → Each (λ r. entry_sound form next r ≡ true) es → Wide 3 es → map raw_entry (map entry_of es) ≡ es
 unfolding Each entry_sound raw_entry entry_of
@@ -235,9 +235,9 @@ module _ (m : Limits) (b : List ℕ) (small : Small m) (long : length b ≡ reco
     pub types_zero : unused type_row types_at (type_count b) m.types b ≡ true
     pub calls_zero : unused entry_row (calls_at m) (open_count b) m.calls b ≡ true
     pub rows_zero : unused term_row (rows_at m) (row_count b) m.rows b ≡ true
-    pub types : bad_type (record_edition b) (types_in b) ≡ none
-    pub shape : shape (record_edition b) (type_count b) (rows_in m b) ≡ Whole
-    pub term : first_bad (form_of (types_in b)) empty (state_of m b).tree ≡ none
+    pub types : bad_type (record_edition b) (types_in b) ≡ None
+    pub shape : shape (record_edition b) (type_count b) (rows_in m b) ≡ Ok tt
+    pub term : first_bad (form_of (types_in b)) empty (state_of m b).tree ≡ None
     pub rising : rises 0 (state_of m b).calls ≡ true
     pub entries : Each (λ r. entry_sound (form_of (types_in b)) (next_number b) r ≡ true) (entries_in m b)
     pub futures : Each (λ r. future_listed (state_of m b).calls r ≡ true) (rows_in m b)

@@ -5,7 +5,7 @@ use mathlib.Core.Path.{◌≡◌, refl, ap, sym, ◌∙◌, subst}
 use mathlib.Core.Bool.{Bool, true, false, cond, false≢true}
 use mathlib.Core.List.{List, [], ◌∷◌, ◌++◌, map, append_assoc, append-nil}
 use mathlib.Core.Logic.{◌⊎◌, inl, inr}
-use mathlib.Core.Option.{Option, none, some}
+use Rattle.std.specs.Prelude.{Option, None, Some}
 use native.Mathlib.Omega.{arith}
 use native.Mathlib.Decide.{ℕ_discrete}
 use lib.Dec.{leb}
@@ -17,8 +17,8 @@ use Rattle.meaning.specs.Terms.{str, file, truth, Head, lit, var, lambda, foreig
 use Rattle.meaning.specs.Records.{version}
 use Rattle.meaning.specs.declared.Fault.{Fault}
 use Rattle.meaning.specs.declared.Fault.TheVariants.{Behind, Unfinished}
-use Rattle.meaning.specs.declared.Shape.{Shape}
-use Rattle.meaning.specs.declared.Shape.TheVariants.{Whole, Bad}
+use Rattle.meaning.specs.Terms.{Shape}
+use Rattle.std.specs.Prelude.{Ok, Err}
 use Rattle.meaning.proofs.Trees.Tests.{left, right, within-if, within_of, none-some}
 use Rattle.meaning.proofs.Trees.Parse.{sizes-split, kids-rows, length-flat, flat-inj}
 use Rattle.meaning.proofs.Trees.EachRow.{Fact, Every, Everys, AllRows, rows-every}
@@ -99,11 +99,11 @@ pub record InRange (edition count : ℕ) (r : List ℕ) : Type 0 where
   pub type_below : type_no r < count
 
 -- a test that finds nothing
-pub passes : {A : Type 0} (b : Bool) (o : Option A) (a : A) → cond b o (some a) ≡ none → (b ≡ true) × (o ≡ none)
+pub passes : {A : Type 0} (b : Bool) (o : Option A) (a : A) → cond b o (Some a) ≡ None → (b ≡ true) × (o ≡ None)
 passes true o a e = (refl, e)
 passes false o a e = absurd (none-some a (sym e))
 
-pub in-range : (edition count : ℕ) (r : List ℕ) → row_fault edition count r ≡ none → InRange edition count r
+pub in-range : (edition count : ℕ) (r : List ℕ) → row_fault edition count r ≡ None → InRange edition count r
 unfolding row_fault fits
 in-range edition count r e =
     let (k, e1) = passes (within 1 (last_kind edition) (kind_no r)) _ _ e in
@@ -113,7 +113,7 @@ in-range edition count r e =
     let (nl, nh) = within-if _ _ (n_no r) (left _ _ f) in
     record { kind_low = kl; kind_high = kh; n_from = nl; n_to = nh; word_in = right _ _ f; type_below = ltb-true (type_no r) count t }
 
-pub range-in : (edition count : ℕ) (r : List ℕ) → InRange edition count r → row_fault edition count r ≡ none
+pub range-in : (edition count : ℕ) (r : List ℕ) → InRange edition count r → row_fault edition count r ≡ None
 unfolding row_fault fits ◌∧ᵇ◌
 range-in edition count r g =
     rw (within_of 1 (last_kind edition) (kind_no r) g.kind_low g.kind_high, within_of _ _ (n_no r) g.n_from g.n_to, g.word_in, lt-ltb (type_no r) count g.type_below) refl
@@ -174,7 +174,7 @@ back_at =
     ▸ (λ n w h f. record { kind = refl; count = omega arith; word = refl })
 
 -- a row without fault is the numbers of the row that it makes
-pub raw_row : (edition count : ℕ) (r : List ℕ) → row_fault edition count r ≡ none → length r ≡ 4 → raw (row_of r) ≡ r
+pub raw_row : (edition count : ℕ) (r : List ℕ) → row_fault edition count r ≡ None → length r ≡ 4 → raw (row_of r) ≡ r
 unfolding raw row_of
 raw_row edition count [] e q = absurd (omega arith)
 raw_row edition count (k ∷ []) e q = absurd (omega arith)
@@ -190,10 +190,10 @@ raw_row edition count (k ∷ n ∷ t ∷ w ∷ []) e q =
 
 -- a row in range
 abbrev pub legal : ℕ → Fact
-legal count h u = row_fault version count (raw (record { head = h; type = u })) ≡ none
+legal count h u = row_fault version count (raw (record { head = h; type = u })) ≡ None
 
 abbrev pub Clear : ℕ → ℕ → List (List ℕ) → Type 0
-Clear edition count rows = Each (λ r. row_fault edition count r ≡ none) rows
+Clear edition count rows = Each (λ r. row_fault edition count r ≡ None) rows
 
 pub rows_back : (edition count : ℕ) (l : List (List ℕ)) → Clear edition count l → Wide 4 l → map raw (map row_of l) ≡ l
 unfolding Each
@@ -205,16 +205,16 @@ unfolding Each AllRows
 clear-legal count [] c w = tt
 clear-legal count (r ∷ l) (e, c) (q, w) = (rw (raw_row version count r e q) e, clear-legal count l c w)
 
-pub bad-whole : (f : Fault) (i : ℕ) → Bad f i ≡ Whole → ⊥
+pub bad-whole : (f : Fault) (i : ℕ) → ◌≡◌ {A = Shape} (Err (f, i)) (Ok tt) → ⊥
 bad-whole f i e = let z : ◌≡◌ {A = ℕ} 0 1 = cc in omega arith
 
-no-fault : (o : Option Fault) (i : ℕ) (s : Shape) → unless-bad o i s ≡ Whole → (o ≡ none) × (s ≡ Whole)
+no-fault : (o : Option Fault) (i : ℕ) (s : Shape) → unless-bad o i s ≡ Ok tt → (o ≡ None) × (s ≡ Ok tt)
 unfolding unless-bad
-no-fault none i s e = (refl, e)
-no-fault (some f) i s e = absurd (bad-whole f i e)
+no-fault None i s e = (refl, e)
+no-fault (Some f) i s e = absurd (bad-whole f i e)
 
 -- each row is in range, and the trees owed end with the last row
-pub accepted : (edition count : ℕ) (l : List (List ℕ)) (owed i : ℕ) → shape_from edition count l owed i ≡ Whole → Clear edition count l × (sizes (kids owed (trees (map row_of l))) ≡ length l)
+pub accepted : (edition count : ℕ) (l : List (List ℕ)) (owed i : ℕ) → shape_from edition count l owed i ≡ Ok tt → Clear edition count l × (sizes (kids owed (trees (map row_of l))) ≡ length l)
 unfolding shape_from Each kids trees size
 accepted edition count [] zero i e = (tt, refl)
 accepted edition count [] (suc k) i e = absurd (bad-whole _ _ e)
@@ -234,7 +234,7 @@ one-tree l e = sym (flats-one (trees l)) ∙ kids-rows l 1 (omega arith) ∙ ap 
     flats-one (t ∷ ts) = append-nil _
 
 -- an accepted table is the rows of a tree, each in range
-pub shape-whole : (count : ℕ) (rows : List (List ℕ)) → shape version count rows ≡ Whole → Wide 4 rows
+pub shape-whole : (count : ℕ) (rows : List (List ℕ)) → shape version count rows ≡ Ok tt → Wide 4 rows
     → (map raw (flat (tree_of (map row_of rows))) ≡ rows) × (size (tree_of (map row_of rows)) ≡ length rows) × Every (legal count) (tree_of (map row_of rows))
 unfolding shape
 shape-whole count rows e w =
@@ -274,7 +274,7 @@ mutual
       ∙ shape-flats count f l k (i + size t) d
       ∙ shape-cong version count l refl (omega arith))
 
-pub whole_of : (count : ℕ) (t : Tree) → Every (legal count) t → shape version count (map raw (flat t)) ≡ Whole
+pub whole_of : (count : ℕ) (t : Tree) → Every (legal count) t → shape version count (map raw (flat t)) ≡ Ok tt
 unfolding shape shape_from
 whole_of count t d = ap (λ (x : List (List ℕ)). shape_from version count x 1 0) (sym (append-nil (map raw (flat t)))) ∙ shape-flat count t [] 0 0 d
 
@@ -289,14 +289,14 @@ owed_after (suc owed) (r ∷ l) = owed_after (owed + arity (row_of r).head) l
 -- why row p is refused, in a table where `owed` trees are to come: it is of bad kind, field or type number; or the rows before it are
 -- these trees, whole; or there is no row p and a tree is unfinished
 pub data Cause (edition count owed : ℕ) (rows : List (List ℕ)) (f : Fault) (p : ℕ) : Type 0 where
-  bad_row : p < length rows → row_fault edition count (get_or rows p []) ≡ some f → Cause edition count owed rows f p
-  past_end : f ≡ Behind → p < length rows → row_fault edition count (get_or rows p []) ≡ none → shape_from edition count (take p rows) owed 0 ≡ Whole → Cause edition count owed rows f p
+  bad_row : p < length rows → row_fault edition count (get_or rows p []) ≡ Some f → Cause edition count owed rows f p
+  past_end : f ≡ Behind → p < length rows → row_fault edition count (get_or rows p []) ≡ None → shape_from edition count (take p rows) owed 0 ≡ Ok tt → Cause edition count owed rows f p
   unfinished : f ≡ Unfinished → p ≡ length rows → 1 ≤ owed_after owed rows → Cause edition count owed rows f p
 
 -- and it is the first such row
 pub record RefusedFrom (edition count owed : ℕ) (rows : List (List ℕ)) (f : Fault) (p : ℕ) : Type 0 where
   pub inside : p ≤ length rows
-  pub fine : (j : ℕ) → j < p → row_fault edition count (get_or rows j []) ≡ none
+  pub fine : (j : ℕ) → j < p → row_fault edition count (get_or rows j []) ≡ None
   pub owing : (j : ℕ) → j < p → 1 ≤ owed_after owed (take j rows)
   pub cause : Cause edition count owed rows f p
 
@@ -304,7 +304,7 @@ pub record RefusedFrom (edition count owed : ℕ) (rows : List (List ℕ)) (f : 
 abbrev pub Refused : ℕ → ℕ → List (List ℕ) → Fault → ℕ → Type 0
 Refused edition count rows f p = RefusedFrom edition count 1 rows f p
 
-pub whole_from : (edition count : ℕ) (l : List (List ℕ)) (owed i j : ℕ) → shape_from edition count l owed i ≡ Whole → shape_from edition count l owed j ≡ Whole
+pub whole_from : (edition count : ℕ) (l : List (List ℕ)) (owed i j : ℕ) → shape_from edition count l owed i ≡ Ok tt → shape_from edition count l owed j ≡ Ok tt
 unfolding shape_from unless-bad
 whole_from edition count [] zero i j e = refl
 whole_from edition count [] (suc k) i j e = absurd (bad-whole _ _ e)
@@ -313,7 +313,7 @@ whole_from edition count (r ∷ l) (suc k) i j e =
     let (p, q) = no-fault (row_fault edition count r) _ _ e in
     rw p (whole_from edition count l (k + arity (row_of r).head) (suc i) (suc j) q)
 
-module _ (edition count : ℕ) (r : List ℕ) (l : List (List ℕ)) (k : ℕ) (f : Fault) (clear : row_fault edition count r ≡ none) where
+module _ (edition count : ℕ) (r : List ℕ) (l : List (List ℕ)) (k : ℕ) (f : Fault) (clear : row_fault edition count r ≡ None) where
   cause-later : (p : ℕ) → Cause edition count (k + arity (row_of r).head) l f p → Cause edition count (suc k) (r ∷ l) f (suc p)
   unfolding shape_from unless-bad owed_after
   cause-later p (bad_row h e) = bad_row (omega arith) e
@@ -324,7 +324,7 @@ module _ (edition count : ℕ) (r : List ℕ) (l : List (List ℕ)) (k : ℕ) (f
   unfolding owed_after
   refused-later p d = record { inside = omega (arith, d.inside); fine = fine; owing = owing; cause = cause-later p d.cause }
     where
-      fine : (j : ℕ) → j < suc p → row_fault edition count (get_or (r ∷ l) j []) ≡ none
+      fine : (j : ℕ) → j < suc p → row_fault edition count (get_or (r ∷ l) j []) ≡ None
       fine zero h = clear
       fine (suc j) h = d.fine j (omega arith)
 
@@ -335,20 +335,32 @@ module _ (edition count : ℕ) (r : List ℕ) (l : List (List ℕ)) (k : ℕ) (f
 refused-here : (edition count owed : ℕ) (rows : List (List ℕ)) (f : Fault) → Cause edition count owed rows f 0 → RefusedFrom edition count owed rows f 0
 refused-here edition count owed rows f d = record { inside = omega arith; fine = λ j h. absurd (omega arith); owing = λ j h. absurd (omega arith); cause = d }
 
-fault-cases : (o : Option Fault) (i : ℕ) (s : Shape) (f : Fault) (p : ℕ) → unless-bad o i s ≡ Bad f p → ((o ≡ some f) × (i ≡ p)) ⊎ ((o ≡ none) × (s ≡ Bad f p))
-unfolding unless-bad
-fault-cases none i s f p e = inr (refl, e)
-fault-cases (some g) i s f p e = inl (cc, cc)
+-- the fault and the row of a shape that has one
+pub bad-parts : (f g : Fault) (i p : ℕ) → ◌≡◌ {A = Shape} (Err (g, i)) (Err (f, p)) → (g ≡ f) × (i ≡ p)
+bad-parts f g i p e = (ap fault_in e, ap row_in e)
+  where
+    fault_in : Shape → Fault
+    fault_in (Ok u) = f
+    fault_in (Err x) = x.0
 
-refused-from : (edition count : ℕ) (l : List (List ℕ)) (owed i : ℕ) (f : Fault) (p : ℕ) → shape_from edition count l owed i ≡ Bad f p → (j : ℕ) × (p ≡ i + j) × RefusedFrom edition count owed l f j
+    row_in : Shape → ℕ
+    row_in (Ok u) = p
+    row_in (Err x) = x.1
+
+fault-cases : (o : Option Fault) (i : ℕ) (s : Shape) (f : Fault) (p : ℕ) → unless-bad o i s ≡ Err (f, p) → ((o ≡ Some f) × (i ≡ p)) ⊎ ((o ≡ None) × (s ≡ Err (f, p)))
+unfolding unless-bad
+fault-cases None i s f p e = inr (refl, e)
+fault-cases (Some g) i s f p e = let (q, r) = bad-parts f g i p e in inl (ap Some q, r)
+
+refused-from : (edition count : ℕ) (l : List (List ℕ)) (owed i : ℕ) (f : Fault) (p : ℕ) → shape_from edition count l owed i ≡ Err (f, p) → (j : ℕ) × (p ≡ i + j) × RefusedFrom edition count owed l f j
 unfolding shape_from owed_after
 refused-from edition count [] zero i f p e = absurd (bad-whole f p (sym e))
 refused-from edition count [] (suc k) i f p e =
-    let q : i ≡ p = cc in
-    (0, omega arith, refused-here edition count (suc k) [] f (unfinished (cc) refl (omega arith)))
+    let (g, q) = bad-parts f Unfinished i p e in
+    (0, omega arith, refused-here edition count (suc k) [] f (unfinished (sym g) refl (omega arith)))
 refused-from edition count (r ∷ l) zero i f p e = elim (fault-cases (row_fault edition count r) _ _ _ _ e) [
   | inl d ↦ (0, omega (arith, d.1), refused-here edition count zero (r ∷ l) f (bad_row (omega arith) d.0))
-  | inr d ↦ let q : i ≡ p = cc d.1 in (0, omega (arith, q), refused-here edition count zero (r ∷ l) f (past_end (cc d.1) (omega arith) d.0 refl))
+  | inr d ↦ let (g, q) = bad-parts f Behind i p d.1 in (0, omega (arith, q), refused-here edition count zero (r ∷ l) f (past_end (sym g) (omega arith) d.0 refl))
 ]
 refused-from edition count (r ∷ l) (suc k) i f p e = elim (fault-cases (row_fault edition count r) _ _ _ _ e) [
   | inl d ↦ (0, omega (arith, d.1), refused-here edition count (suc k) (r ∷ l) f (bad_row (omega arith) d.0))
@@ -357,7 +369,7 @@ refused-from edition count (r ∷ l) (suc k) i f p e = elim (fault-cases (row_fa
       (suc j, omega (arith, q), refused-later edition count r l k f d.0 j u)
 ]
 
-pub shape-bad : (edition count : ℕ) (rows : List (List ℕ)) (f : Fault) (p : ℕ) → shape edition count rows ≡ Bad f p → Refused edition count rows f p
+pub shape-bad : (edition count : ℕ) (rows : List (List ℕ)) (f : Fault) (p : ℕ) → shape edition count rows ≡ Err (f, p) → Refused edition count rows f p
 unfolding shape
 shape-bad edition count rows f p e =
     let (j, q, d) = refused-from edition count rows 1 0 f p e in
@@ -375,7 +387,7 @@ refused-sooner edition count r l k f p d =
       cause = cause d.cause;
     }
   where
-    clear : row_fault edition count r ≡ none
+    clear : row_fault edition count r ≡ None
     clear = d.fine 0 (omega arith)
 
     cause : Cause edition count (suc k) (r ∷ l) f (suc p) → Cause edition count (k + arity (row_of r).head) l f p
@@ -383,7 +395,7 @@ refused-sooner edition count r l k f p d =
     cause (past_end q h e w) = past_end q (omega arith) e (whole_from edition count (take p l) (k + arity (row_of r).head) 1 0 (no-fault (row_fault edition count r) _ _ w).1)
     cause (unfinished q h o) = unfinished q (omega arith) o
 
-bad-here : (edition count owed : ℕ) (rows : List (List ℕ)) (i : ℕ) (f : Fault) → Cause edition count owed rows f 0 → shape_from edition count rows owed i ≡ Bad f i
+bad-here : (edition count owed : ℕ) (rows : List (List ℕ)) (i : ℕ) (f : Fault) → Cause edition count owed rows f 0 → shape_from edition count rows owed i ≡ Err (f, i)
 unfolding owed_after shape_from unless-bad
 bad-here edition count zero [] i f (bad_row h e) = absurd (omega arith)
 bad-here edition count (suc k) [] i f (bad_row h e) = absurd (omega arith)
@@ -398,16 +410,16 @@ bad-here edition count (suc k) [] i f (unfinished q h o) = rw q refl
 bad-here edition count zero (r ∷ l) i f (unfinished q h o) = absurd (omega arith)
 bad-here edition count (suc k) (r ∷ l) i f (unfinished q h o) = absurd (omega arith)
 
-bad-from : (edition count : ℕ) (rows : List (List ℕ)) (owed i : ℕ) (f : Fault) (p : ℕ) → RefusedFrom edition count owed rows f p → shape_from edition count rows owed i ≡ Bad f (i + p)
+bad-from : (edition count : ℕ) (rows : List (List ℕ)) (owed i : ℕ) (f : Fault) (p : ℕ) → RefusedFrom edition count owed rows f p → shape_from edition count rows owed i ≡ Err (f, (i + p))
 unfolding owed_after shape_from unless-bad
-bad-from edition count rows owed i f zero d = let q : i ≡ i + 0 = omega arith in bad-here edition count owed rows i f d.cause ∙ ap (λ (x : ℕ). Bad f x) q
+bad-from edition count rows owed i f zero d = let q : i ≡ i + 0 = omega arith in bad-here edition count owed rows i f d.cause ∙ ap (λ (x : ℕ). Err (f, x)) q
 bad-from edition count [] owed i f (suc p) d = absurd (omega (arith, d.inside))
 bad-from edition count (r ∷ l) zero i f (suc p) d = absurd (omega (arith, d.owing 0 (omega arith)))
 bad-from edition count (r ∷ l) (suc k) i f (suc p) d =
     let q : suc i + p ≡ i + suc p = omega arith in
     rw (d.fine 0 (omega arith))
-    (bad-from edition count l (k + arity (row_of r).head) (suc i) f p (refused-sooner edition count r l k f p d) ∙ ap (λ (x : ℕ). Bad f x) q)
+    (bad-from edition count l (k + arity (row_of r).head) (suc i) f p (refused-sooner edition count r l k f p d) ∙ ap (λ (x : ℕ). Err (f, x)) q)
 
-pub bad-shape : (edition count : ℕ) (rows : List (List ℕ)) (f : Fault) (p : ℕ) → Refused edition count rows f p → shape edition count rows ≡ Bad f p
+pub bad-shape : (edition count : ℕ) (rows : List (List ℕ)) (f : Fault) (p : ℕ) → Refused edition count rows f p → shape edition count rows ≡ Err (f, p)
 unfolding shape
-bad-shape edition count rows f p d = let q : 0 + p ≡ p = omega arith in bad-from edition count rows 1 0 f p d ∙ ap (λ (x : ℕ). Bad f x) q
+bad-shape edition count rows f p d = let q : 0 + p ≡ p = omega arith in bad-from edition count rows 1 0 f p d ∙ ap (λ (x : ℕ). Err (f, x)) q

@@ -3,7 +3,7 @@ use Prim.Native.Nat.{ℕ, zero, suc, ◌+◌, ◌*◌, ◌≤◌, ◌<◌}
 use mathlib.Core.Path.{◌≡◌, refl, ap, sym, ◌∙◌}
 use mathlib.Core.Bool.{true}
 use mathlib.Core.List.{List, [], ◌∷◌}
-use mathlib.Core.Option.{none}
+use Rattle.std.specs.Prelude.{None}
 use native.Mathlib.Omega.{arith}
 use borrow.Author.Tests.{eqb-true, leb-true}
 use lib.ListN.{length, take, drop, get_or, length-drop}
@@ -170,7 +170,7 @@ module _ (i j : ℕ) (r q : List ℕ) (h : length r ≡ 19) (k : length q ≡ 19
   ]
 
 -- in a table that passes, equal forms have equal numbers
-pub equal-forms : (rows : List (List ℕ)) → Wide 19 rows → bad_type version rows ≡ none → (t u : ℕ) → t < length rows → u < length rows → form_of rows t ≡ form_of rows u → t ≡ u
+pub equal-forms : (rows : List (List ℕ)) → Wide 19 rows → bad_type version rows ≡ None → (t u : ℕ) → t < length rows → u < length rows → form_of rows t ≡ form_of rows u → t ≡ u
 unfolding form_of type_ok
 equal-forms rows wide pass t u h k e =
     equal-types version rows pass t u h k

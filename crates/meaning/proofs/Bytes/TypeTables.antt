@@ -3,7 +3,7 @@ use Prim.Native.Nat.{ℕ, zero, suc, ◌+◌, ◌≤◌, ◌<◌}
 use mathlib.Core.Path.{◌≡◌, refl, ap, sym, ◌∙◌, fun_ext}
 use mathlib.Core.Bool.{Bool, true, false, false≢true}
 use mathlib.Core.List.{List, [], ◌∷◌, ◌++◌, append-nil}
-use mathlib.Core.Option.{Option, none, some}
+use Rattle.std.specs.Prelude.{Option, None, Some}
 use native.Mathlib.Omega.{arith}
 use native.Mathlib.Decide.{ℕ_discrete, dec_lt}
 use borrow.Author.Tests.{leb-true, lt-ltb, ltb-true, ne_eqb, not-true}
@@ -74,20 +74,20 @@ module _ (edition : ℕ) where
   snoc-take : (old rs : List (List ℕ)) (r : List ℕ) (j : ℕ) → type_ok edition (old ++ (r ∷ []) ++ take j rs) (get_or rs j []) ≡ type_ok edition (old ++ take (suc j) (r ∷ rs)) (get_or (r ∷ rs) (suc j) [])
   snoc-take old rs r j = rw (append_snoc old r (take j rs)) refl
 
-  no-bad-from : (old rs : List (List ℕ)) → bad_type_from edition old rs ≡ none → (j : ℕ) → j < length rs → type_ok edition (old ++ take j rs) (get_or rs j []) ≡ true
+  no-bad-from : (old rs : List (List ℕ)) → bad_type_from edition old rs ≡ None → (j : ℕ) → j < length rs → type_ok edition (old ++ take j rs) (get_or rs j []) ≡ true
   unfolding bad_type_from
   no-bad-from old [] e j h = absurd (omega arith)
   no-bad-from old (r ∷ rs) e zero h = rw (append-nil old) (passes (type_ok edition old r) _ _ e).0
   no-bad-from old (r ∷ rs) e (suc j) h = sym (snoc-take old rs r j) ∙ no-bad-from (old ++ (r ∷ [])) rs (passes (type_ok edition old r) _ _ e).1 j (omega arith)
 
-  none_from : (old rs : List (List ℕ)) → ((j : ℕ) → j < length rs → type_ok edition (old ++ take j rs) (get_or rs j []) ≡ true) → bad_type_from edition old rs ≡ none
+  none_from : (old rs : List (List ℕ)) → ((j : ℕ) → j < length rs → type_ok edition (old ++ take j rs) (get_or rs j []) ≡ true) → bad_type_from edition old rs ≡ None
   unfolding bad_type_from
   none_from old [] h = refl
   none_from old (r ∷ rs) h =
       let e : type_ok edition old r ≡ true = rw (append-nil old) at (h 0 (omega arith)) in
       rw e (none_from (old ++ (r ∷ [])) rs (λ j k. snoc-take old rs r j ∙ h (suc j) (omega arith)))
 
-  first-from : (old rs : List (List ℕ)) (i : ℕ) → bad_type_from edition old rs ≡ some i
+  first-from : (old rs : List (List ℕ)) (i : ℕ) → bad_type_from edition old rs ≡ Some i
       → (n : ℕ) × (i ≡ length old + n) × (n < length rs) × (type_ok edition (old ++ take n rs) (get_or rs n []) ≡ false)
       × ((j : ℕ) → j < n → type_ok edition (old ++ take j rs) (get_or rs j []) ≡ true)
   unfolding bad_type_from
@@ -95,13 +95,13 @@ module _ (edition : ℕ) where
   first-from old (r ∷ rs) i e = go (type_ok edition old r) refl (first-from (old ++ (r ∷ [])) rs i)
     where
       go : (b : Bool) → type_ok edition old r ≡ b
-          → (bad_type_from edition (old ++ (r ∷ [])) rs ≡ some i
+          → (bad_type_from edition (old ++ (r ∷ [])) rs ≡ Some i
           → (n : ℕ) × (i ≡ length (old ++ (r ∷ [])) + n) × (n < length rs) × (type_ok edition (old ++ (r ∷ []) ++ take n rs) (get_or rs n []) ≡ false)
           × ((j : ℕ) → j < n → type_ok edition (old ++ (r ∷ []) ++ take j rs) (get_or rs j []) ≡ true))
           → (n : ℕ) × (i ≡ length old + n) × (n < suc (length rs)) × (type_ok edition (old ++ take n (r ∷ rs)) (get_or (r ∷ rs) n []) ≡ false)
           × ((j : ℕ) → j < n → type_ok edition (old ++ take j (r ∷ rs)) (get_or (r ∷ rs) j []) ≡ true)
       go false q rec =
-          let z : length old ≡ i = let y : ◌≡◌ {A = Option ℕ} (some (length old)) (some i) = rw q at e in cc in
+          let z : length old ≡ i = let y : ◌≡◌ {A = Option ℕ} (Some (length old)) (Some i) = rw q at e in cc in
           (0, omega arith, omega arith, rw (append-nil old) q, λ j h. absurd (omega arith))
       go true q rec =
           let (n, a, b, c, d) = rec (rw q at e) in
@@ -111,16 +111,16 @@ module _ (edition : ℕ) where
           earlier n d zero h = rw (append-nil old) q
           earlier n d (suc j) h = sym (snoc-take old rs r j) ∙ d j (omega arith)
 
-  pub no-bad-type : (rows : List (List ℕ)) → bad_type edition rows ≡ none → (j : ℕ) → j < length rows → type_ok edition (take j rows) (get_or rows j []) ≡ true
+  pub no-bad-type : (rows : List (List ℕ)) → bad_type edition rows ≡ None → (j : ℕ) → j < length rows → type_ok edition (take j rows) (get_or rows j []) ≡ true
   unfolding bad_type
   no-bad-type rows e = no-bad-from [] rows e
 
-  pub none-bad : (rows : List (List ℕ)) → ((j : ℕ) → j < length rows → type_ok edition (take j rows) (get_or rows j []) ≡ true) → bad_type edition rows ≡ none
+  pub none-bad : (rows : List (List ℕ)) → ((j : ℕ) → j < length rows → type_ok edition (take j rows) (get_or rows j []) ≡ true) → bad_type edition rows ≡ None
   unfolding bad_type
   none-bad rows h = none_from [] rows h
 
   -- refusal 6
-  pub first-bad-type : (rows : List (List ℕ)) (i : ℕ) → bad_type edition rows ≡ some i
+  pub first-bad-type : (rows : List (List ℕ)) (i : ℕ) → bad_type edition rows ≡ Some i
       → (i < length rows) × (type_ok edition (take i rows) (get_or rows i []) ≡ false) × ((j : ℕ) → j < i → type_ok edition (take j rows) (get_or rows j []) ≡ true)
   unfolding bad_type
   first-bad-type rows i e =
@@ -129,7 +129,7 @@ module _ (edition : ℕ) where
       rw z (b, c, d)
 
   -- "so equal types have equal numbers"
-  pub equal-types : (rows : List (List ℕ)) → bad_type edition rows ≡ none → (i j : ℕ) → i < length rows → j < length rows → get_or rows i [] ≡ get_or rows j [] → i ≡ j
+  pub equal-types : (rows : List (List ℕ)) → bad_type edition rows ≡ None → (i j : ℕ) → i < length rows → j < length rows → get_or rows i [] ≡ get_or rows j [] → i ≡ j
   unfolding type_ok fresh
   equal-types rows e i j h k q = elim (ℕ_discrete i j) [
     | yes z ↦ z
@@ -267,7 +267,7 @@ fun-row r s ps u q = elim (row-form r) [
   | of_fun v k f ↦ let z : v ≡ s = cc in (k ∙ ap side_no z, cc, cc)
 ]
 
-module _ (rows : List (List ℕ)) (pass : bad_type version rows ≡ none) where
+module _ (rows : List (List ℕ)) (pass : bad_type version rows ≡ None) where
   -- a row with a form number stands in the table
   stands : (t : ℕ) → 1 ≤ form_no (get_or rows t []) → t < length rows
   stands t h = elim (dec_lt t (length rows)) [

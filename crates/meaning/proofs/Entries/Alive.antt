@@ -4,7 +4,7 @@ use Prim.Native.Nat.{ℕ}
 use mathlib.Core.Path.{◌≡◌, ap, ◌∙◌}
 use mathlib.Core.Bool.{true}
 use mathlib.Core.List.{List}
-use mathlib.Core.Option.{Option, some}
+use Rattle.std.specs.Prelude.{Option, Some}
 use Rattle.meaning.specs.Bytes.{Limits}
 use Rattle.meaning.specs.Types.{form_of, empty}
 use Rattle.meaning.specs.Terms.{Tree, ty_of}
@@ -20,7 +20,7 @@ use Rattle.meaning.proofs.Entries.PaperTyped.{good-has}
 pub data Moment (s : State) : Type 0 where
   a-value : value s.tree ≡ true → Moment s
   a-rule : (c : Option Call) (u : Tree) → step (form_of s.types) s.next s.tree ≡ go c u → Moment s
-  a_call : (e : Awaited) → awaited s.tree ≡ some e → listed s.calls e.number ≡ some e.type → Moment s
+  a_call : (e : Awaited) → awaited s.tree ≡ Some e → listed s.calls e.number ≡ Some e.type → Moment s
 
 good-moment : (m : Limits) (s : State) → Good m s → Moment s
 good-moment m s g = told (progress (form_of s.types) s.next s.tree g.typed)

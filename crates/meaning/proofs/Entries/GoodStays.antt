@@ -3,7 +3,7 @@ use Prim.Native.Nat.{ℕ, ◌+◌, ◌*◌, ◌≤◌}
 use mathlib.Core.Path.{◌≡◌, refl, ap, sym, ◌∙◌}
 use mathlib.Core.Bool.{false≢true}
 use mathlib.Core.List.{List, [], ◌∷◌, ◌++◌}
-use mathlib.Core.Option.{Option, none, some}
+use Rattle.std.specs.Prelude.{Option, None, Some}
 use native.Mathlib.Omega.{arith}
 use borrow.Author.Tests.{eq-eqb}
 use lib.ListN.{length}
@@ -14,7 +14,7 @@ use Rattle.meaning.specs.Typing.{Typed}
 use Rattle.meaning.specs.Steps.{Call, go, swap, due, settle, settles}
 use Rattle.meaning.specs.Records.{State, Entry, listed}
 use Rattle.meaning.specs.Entries.{stepped, sent, without, reply_number, reply_tree, replied_state, reply_verdict}
-use Rattle.meaning.specs.declared.Verdict.TheVariants.{Accepted}
+use Rattle.std.specs.Prelude.{Ok}
 use Rattle.meaning.proofs.Trees.Tests.{none-some}
 use Rattle.meaning.proofs.Trees.EachRow.{Fact, Every, Everys, Due, Listed, every-rows, rows-every, all-rows-map}
 use Rattle.meaning.proofs.Bytes.Layouts.{Each}
@@ -31,11 +31,11 @@ use Rattle.meaning.proofs.Entries.OpenList.{each_append, each_more, rises-with, 
 use Rattle.meaning.proofs.Entries.Replying.{reply-tree, accepted-reply, plain-reply}
 
 -- what a reply settles: a row that stays keeps what is known of it, and the value put brings its own
-module _ (P Q : Fact) (k : ℕ) (v : Tree) (keeps : (h : Head) (u : ℕ) → due k v h ≡ none → P h u → Q h u) (new : Every Q v) where
+module _ (P Q : Fact) (k : ℕ) (v : Tree) (keeps : (h : Head) (u : ℕ) → due k v h ≡ None → P h u → Q h u) (new : Every Q v) where
   settle-row : (h : Head) (u : ℕ) (f : Forest (arity h)) (o : Option Tree) → due k v h ≡ o → P h u → Everys Q f → Every Q (swap o (node h u f))
   unfolding swap Every
-  settle-row h u f none e p d = (keeps h u e p, d)
-  settle-row h u f (some w) e p d = let q = (due-is k v h w e).1 in rw (← q) new
+  settle-row h u f None e p d = (keeps h u e p, d)
+  settle-row h u f (Some w) e p d = let q = (due-is k v h w e).1 in rw (← q) new
 
   mutual
     unfolding Every settle
@@ -47,10 +47,10 @@ module _ (P Q : Fact) (k : ℕ) (v : Tree) (keeps : (h : Head) (u : ℕ) → due
     settles-rows end d = tt
     settles-rows (more t f) (p, d) = (settle-rows t p, settles-rows f d)
 
-due-other : (k j : ℕ) (v : Tree) → due k v (future j) ≡ none → j ≡ k → ⊥
+due-other : (k j : ℕ) (v : Tree) → due k v (future j) ≡ None → j ≡ k → ⊥
 unfolding due code word_of ◌∧ᵇ◌
 due-other k j v e q =
-    let f : due k v (future j) ≡ some v = rw (eq-eqb j k q) refl in
+    let f : due k v (future j) ≡ Some v = rw (eq-eqb j k q) refl in
     none-some v (sym e ∙ f)
 
 -- Replies --------------------------------------------------------------------------------------------------------
@@ -70,14 +70,14 @@ listed-settled calls k v t p d =
     (λ h u e a j q. listed-without k j calls (due-other k j v (ap (due k v) (sym q) ∙ e)) ∙ a j q)
     (plain-listed (listed (without k calls)) v p) t d
 
-pub reply-stays : (m : Limits) (s : State) (answer : List ℕ) → Good m s → reply_verdict m s answer ≡ Accepted → Good m (replied_state s answer)
+pub reply-stays : (m : Limits) (s : State) (answer : List ℕ) → Good m s → reply_verdict m s answer ≡ Ok tt → Good m (replied_state s answer)
 unfolding replied_state
 reply-stays m s answer g e =
     let (l, a) = accepted-reply m s answer e in
     let form = form_of s.types in
     let o = reply-tree (length s.types) answer l.one-tree in
     let p = plain-reply m s answer g a in
-    let (d, q) = settle-typed form (listed s.calls) (reply_number answer) (reply_tree answer) (a.open-call ∙ ap some (sym a.of-type)) a.typed empty s.tree g.listed g.typed in
+    let (d, q) = settle-typed form (listed s.calls) (reply_number answer) (reply_tree answer) (a.open-call ∙ ap Some (sym a.of-type)) a.typed empty s.tree g.listed g.typed in
     record {
       types_some = g.types_some;
       types_many = g.types_many;
@@ -112,10 +112,10 @@ arm-board = record { small = arm-small; numbers = omega arith; programs = omega 
 parts : (m : Limits) (s : State) → Good m s → Parts (form_of s.types) (length s.types)
 parts m s g = record { elem = λ t e h q. omega (arith, (promised s.types g.types_pass).elem q) }
 
-numbered : (m : Limits) (s : State) (c : Option Call) → Board m → Good m s → MaySend m s c → (d : Call) → c ≡ some d → (1 ≤ s.next) × (s.next ≤ 65535)
+numbered : (m : Limits) (s : State) (c : Option Call) → Board m → Good m s → MaySend m s c → (d : Call) → c ≡ Some d → (1 ≤ s.next) × (s.next ≤ 65535)
 unfolding MaySend
-numbered m s none b g k d e = absurd (none-some d e)
-numbered m s (some c) b g k d e = (g.next_low, omega (arith, b.numbers, k.1))
+numbered m s None b g k d e = absurd (none-some d e)
+numbered m s (Some c) b g k d e = (g.next_low, omega (arith, b.numbers, k.1))
 
 -- behind a step, whatever it does to the list
 module _ (m : Limits) (b : Board m) (s : State) (g : Good m s) (c : Option Call) (u : Tree) (e : step_of s ≡ go c u) (may : MaySend m s c) where
@@ -125,17 +125,17 @@ module _ (m : Limits) (b : Board m) (s : State) (g : Good m s) (c : Option Call)
   tree-typed : Typed (form_of s.types) empty u × (ty_of u ≡ ty_of s.tree)
   tree-typed = preservation (form_of s.types) s.next s.tree c u g.typed e
 
-quiet-stays : (m : Limits) (b : Board m) (s : State) → Good m s → (u : Tree) → step_of s ≡ go none u → size u ≤ m.rows → Good m (stepped s u)
+quiet-stays : (m : Limits) (b : Board m) (s : State) → Good m s → (u : Tree) → step_of s ≡ go None u → size u ≤ m.rows → Good m (stepped s u)
 unfolding stepped MaySend
 quiet-stays m b s g u e h =
-    let (d, q) = tree-typed m b s g none u e tt in
+    let (d, q) = tree-typed m b s g None u e tt in
     record {
       types_some = g.types_some;
       types_many = g.types_many;
       types_wide = g.types_wide;
       types_pass = g.types_pass;
       rows_many = h;
-      legal_rows = tree-legal m b s g none u e tt;
+      legal_rows = tree-legal m b s g None u e tt;
       typed = d;
       calls_many = g.calls_many;
       calls_rise = g.calls_rise;
@@ -143,7 +143,7 @@ quiet-stays m b s g u e h =
       calls_ground = g.calls_ground;
       next_low = g.next_low;
       next_high = g.next_high;
-      listed = listed-step (form_of s.types) (listed s.calls) s.next s.tree none u (λ d x. absurd (none-some d x)) g.listed e;
+      listed = listed-step (form_of s.types) (listed s.calls) s.next s.tree None u (λ d x. absurd (none-some d x)) g.listed e;
       program = q ∙ g.program;
     }
 
@@ -154,14 +154,14 @@ listed_more : (calls : List Entry) (e : Entry) (t : Tree) → Listed (listed cal
 listed_more calls e t d =
     rows-every (Due (listed (calls ++ (e ∷ [])))) t (all-rows-map (Due (listed calls)) (Due (listed (calls ++ (e ∷ [])))) (flat t) (λ h u a k q. listed-with calls e k u (a k q)) (every-rows (Due (listed calls)) t d))
 
-some-call : (c d : Call) → some c ≡ some d → c ≡ d
+some-call : (c d : Call) → Some c ≡ Some d → c ≡ d
 some-call c d e = cc
 
-send-stays : (m : Limits) (b : Board m) (s : State) → Good m s → (c : Call) (u : Tree) → step_of s ≡ go (some c) u → MaySend m s (some c) → size u ≤ m.rows → Good m (sent s c u)
+send-stays : (m : Limits) (b : Board m) (s : State) → Good m s → (c : Call) (u : Tree) → step_of s ≡ go (Some c) u → MaySend m s (Some c) → size u ≤ m.rows → Good m (sent s c u)
 unfolding sent MaySend Each
 send-stays m b s g c u e may h =
     let form = form_of s.types in
-    let (d, q) = tree-typed m b s g (some c) u e may in
+    let (d, q) = tree-typed m b s g (Some c) u e may in
     let (ps, f, r) = sent-type form s.next s.tree c u g.typed e in
     let new = listed-new s.calls (entered s c) g.calls_below in
     record {
@@ -170,7 +170,7 @@ send-stays m b s g c u e may h =
       types_wide = g.types_wide;
       types_pass = g.types_pass;
       rows_many = h;
-      legal_rows = tree-legal m b s g (some c) u e may;
+      legal_rows = tree-legal m b s g (Some c) u e may;
       typed = d;
       calls_many = omega (arith, may.0, length-with s.calls (entered s c));
       calls_rise = rises-with s.calls (entered s c) 0 g.next_low g.calls_below g.calls_rise;
@@ -178,14 +178,14 @@ send-stays m b s g c u e may h =
       calls_ground = each_append _ s.calls (entered s c ∷ []) g.calls_ground (((promised s.types g.types_pass).call r).0, tt);
       next_low = omega arith;
       next_high = omega (arith, may.1);
-      listed = listed-step form (listed (s.calls ++ (entered s c ∷ []))) s.next s.tree (some c) u (λ d x. new ∙ ap (λ (y : Call). some y.result) (some-call c d x)) (listed_more s.calls (entered s c) s.tree g.listed) e;
+      listed = listed-step form (listed (s.calls ++ (entered s c ∷ []))) s.next s.tree (Some c) u (λ d x. new ∙ ap (λ (y : Call). Some y.result) (some-call c d x)) (listed_more s.calls (entered s c) s.tree g.listed) e;
       program = q ∙ g.program;
     }
 
 behind-stays : (m : Limits) (b : Board m) (s : State) → Good m s → (c : Option Call) (u : Tree) → step_of s ≡ go c u → MaySend m s c → size u ≤ m.rows → Good m (behind_step s c u)
 unfolding behind_step
-behind-stays m b s g none u e may h = quiet-stays m b s g u e h
-behind-stays m b s g (some c) u e may h = send-stays m b s g c u e may h
+behind-stays m b s g None u e may h = quiet-stays m b s g u e h
+behind-stays m b s g (Some c) u e may h = send-stays m b s g c u e may h
 
 pub step_stays : (m : Limits) → Board m → (s u : State) (c : Option Call) → PassesTo m s c u → Good m s → Good m u
 step_stays m b s u c p g = rw p.state (behind-stays m b s g c p.tree p.steps p.may p.room)

@@ -1,10 +1,10 @@
--- Demand 3 over histories: from an accepted load, after any runs and replies, refused ones included, and at every state of each run's path, the
+-- Histories: from an accepted load, after any runs and replies, refused ones included, and at every state of each run's path, the
 -- record is sound, the types are the file's, and the term is alive under the program's type; and no number is sent twice. Assumes nothing.
 use Prim.Native.Nat.{ℕ, suc, ◌≤◌, ◌<◌}
 use mathlib.Core.Path.{◌≡◌, refl, ap, sym, ◌∙◌}
 use mathlib.Core.Bool.{Bool, true, false, cond, not}
 use mathlib.Core.List.{List, [], ◌∷◌, ◌++◌}
-use mathlib.Core.Option.{Option, none, some}
+use Rattle.std.specs.Prelude.{Option, None, Some}
 use native.Mathlib.Omega.{arith}
 use borrow.Author.Tests.{eqb-true, ne_eqb}
 use lib.Dec.{eqb}
@@ -17,11 +17,11 @@ use Rattle.meaning.specs.Records.{State, record_of, state_of, sound}
 use Rattle.meaning.specs.Entries.{leaves, load, file_types, file_tree, loaded_state, RunOut, Ended, stepped, sent, runs, ran_out, rejected, run, Replied, replied_state, replied_out, reply_verdict, reply, Move, running, replying, after_move, after, sent_in, sent_by, sends}
 use Rattle.meaning.specs.declared.Refusal.{Refusal}
 use Rattle.meaning.specs.declared.Refusal.TheVariants.{Length}
-use Rattle.meaning.specs.declared.Verdict.{Verdict}
-use Rattle.meaning.specs.declared.Verdict.TheVariants.{Accepted, Refused}
+use Rattle.meaning.specs.Answers.{Verdict}
+use Rattle.std.specs.Prelude.{Ok, Err}
 use Rattle.meaning.specs.declared.Answer.{Answer}
 use Rattle.meaning.specs.declared.Answer.TheVariants.{Value, Waiting, Sent, Held, Budget, Room, Numbers}
-use Rattle.meaning.specs.declared.Run.TheVariants.{Ran}
+use Rattle.meaning.specs.Answers.{ended_by}
 use Rattle.meaning.proofs.Trees.Tests.{both}
 use Rattle.meaning.proofs.Bytes.Layouts.{AllBytes, Each}
 use Rattle.meaning.proofs.Bytes.Records.{Good, good-state, record-state, state-record}
@@ -36,8 +36,8 @@ use Rattle.meaning.proofs.Bytes.Files.{loaded-good}
 
 -- the state behind a call on the bytes of a state
 unfoldable pub taken : Verdict → State → State → State
-taken Accepted new old = new
-taken (Refused r) new old = old
+taken (Ok tt) new old = new
+taken (Err r) new old = old
 
 unfoldable pub behind_move : Limits → State → Move → State
 behind_move m s (running budget work) = cond (eqb (length work) m.work_bytes) (runs m budget s).state s
@@ -45,8 +45,8 @@ behind_move m s (replying answer work) = cond (eqb (length work) m.work_bytes) (
 
 leaves-taken : (m : Limits) (v : Verdict) (new old : State) → leaves v (record_of m new) (record_of m old) ≡ record_of m (taken v new old)
 unfolding leaves taken
-leaves-taken m Accepted new old = refl
-leaves-taken m (Refused r) new old = refl
+leaves-taken m (Ok tt) new old = refl
+leaves-taken m (Err r) new old = refl
 
 ran-record : (m : Limits) (e : Ended) → (ran_out m e).record' ≡ record_of m e.state
 unfolding ran_out
@@ -74,13 +74,13 @@ move-bytes m b s g (replying answer work) = go (eqb (length work) m.work_bytes) 
         → (reply m (record_of m s) work answer).record' ≡ record_of m (cond t (taken (reply_verdict m s answer) (replied_state s answer) s) s)
     go true e = ap (λ (o : Replied). o.record') (reply-good m b.small s g work answer (eqb-true _ _ e)) ∙ replied-record m s answer (record_of m s) work (reply_verdict m s answer)
         ∙ leaves-taken m (reply_verdict m s answer) (replied_state s answer) s
-    go false e = ap (λ (o : Replied). o.record') (reply-short m b.small s g work answer e) ∙ replied-record m s answer (record_of m s) work (Refused Length)
-        ∙ leaves-taken m (Refused Length) (replied_state s answer) s
+    go false e = ap (λ (o : Replied). o.record') (reply-short m b.small s g work answer e) ∙ replied-record m s answer (record_of m s) work (Err Length)
+        ∙ leaves-taken m (Err Length) (replied_state s answer) s
 
-taken-good : (m : Limits) (v : Verdict) (new old : State) → (v ≡ Accepted → Good m new) → Good m old → Good m (taken v new old)
+taken-good : (m : Limits) (v : Verdict) (new old : State) → (v ≡ Ok tt → Good m new) → Good m old → Good m (taken v new old)
 unfolding taken
-taken-good m Accepted new old h g = h refl
-taken-good m (Refused r) new old h g = g
+taken-good m (Ok tt) new old h g = h refl
+taken-good m (Err r) new old h g = g
 
 cond-good : (m : Limits) (t : Bool) (new old : State) → Good m new → Good m old → Good m (cond t new old)
 cond-good m true new old h g = h
@@ -96,8 +96,8 @@ move-good m b s g (replying answer work) =
 -- and of the same program
 taken_of : (types : List (List ℕ)) (p : ℕ) (v : Verdict) (s : State) (answer : List ℕ) → Of types p s → Of types p (taken v (replied_state s answer) s)
 unfolding taken replied_state
-taken_of types p Accepted s answer h = record { same-types = h.same-types; same-program = h.same-program }
-taken_of types p (Refused r) s answer h = h
+taken_of types p (Ok tt) s answer h = record { same-types = h.same-types; same-program = h.same-program }
+taken_of types p (Err r) s answer h = h
 
 cond_of : (types : List (List ℕ)) (p : ℕ) (t : Bool) (new old : State) → Of types p new → Of types p old → Of types p (cond t new old)
 cond_of types p true new old h g = h
@@ -143,7 +143,7 @@ holds-walks m k types p b h w =
 
 -- From a load ------------------------------------------------------------------------------------------------------
 
-module _ (m : Limits) (k : Board m) (file kept : List ℕ) (bytes : AllBytes file) (accepted : (load m file kept).verdict ≡ Accepted) where
+module _ (m : Limits) (k : Board m) (file kept : List ℕ) (bytes : AllBytes file) (accepted : (load m file kept).verdict ≡ Ok tt) where
   pub load-holds : Holds m (file_types file) (ty_of (file_tree file)) (load m file kept).record'
   unfolding load loaded_state
   load-holds =
@@ -154,7 +154,7 @@ module _ (m : Limits) (k : Board m) (file kept : List ℕ) (bytes : AllBytes fil
         bytes = load-writes m file kept accepted;
       }
 
-  -- demand 3: after any runs and replies, refused ones included
+  -- after any runs and replies, refused ones included
   pub alive : (vs : List Move) → Alive m (file_types file) (ty_of (file_tree file)) (after m (load m file kept).record' vs)
   alive vs = holds-alive m k (file_types file) (ty_of (file_tree file)) _ (history-holds m k (file_types file) (ty_of (file_tree file)) _ vs load-holds)
 
@@ -204,7 +204,7 @@ sends_lower : (low mid high : ℕ) (ks : List ℕ) → low ≤ mid → Sends mid
 sends_lower low mid high ks h (silent e q) = silent e (omega arith)
 sends_lower low mid high ks h (one k e q r) = one k e (omega arith) r
 
-stopped-silent : (m : Limits) (s : State) (a : Answer) (n : ℕ) → Halts m s a → sent_in (Ran a n) ≡ []
+stopped-silent : (m : Limits) (s : State) (a : Answer) (n : ℕ) → Halts m s a → sent_in (ended_by a n) ≡ []
 unfolding Halts sent_in
 stopped-silent m s Value n h = refl
 stopped-silent m s Waiting n h = refl
@@ -219,21 +219,21 @@ unfolding behind_step stepped sent
 step-next m s u c p = rw p.state (later c)
   where
     later : (c : Option Call) → s.next ≤ (behind_step s c p.tree).next
-    later none = omega arith
-    later (some c) = omega arith
+    later None = omega arith
+    later (Some c) = omega arith
 
 -- along a path
-path-sends : (m : Limits) (n : ℕ) {b : ℕ} {s : State} {us : List State} {a : Answer} {l : List ℕ} → RunPath m b s us a l → Sends s.next (last_state s us).next (sent_in (Ran a n))
+path-sends : (m : Limits) (n : ℕ) {b : ℕ} {s : State} {us : List State} {a : Answer} {l : List ℕ} → RunPath m b s us a l → Sends s.next (last_state s us).next (sent_in (ended_by a n))
 unfolding last_state sent_in behind_step sent
 path-sends m n (ends-halted {budget} {s} {a} h) = silent (stopped-silent m s a n h) (omega arith)
 path-sends m n (ends-spent p) = silent refl (omega arith)
 path-sends m n (ends-sent {budget} {s} {u} {c} p) = one s.next refl (omega arith) (ap (λ (q : State). q.next) p.state)
-path-sends m n (goes_on {budget} {s} {u} {us} p w) = sends_lower s.next u.next (last_state u us).next _ (step-next m s u none p) (path-sends m n w)
+path-sends m n (goes_on {budget} {s} {u} {us} p w) = sends_lower s.next u.next (last_state u us).next _ (step-next m s u None p) (path-sends m n w)
 
-run-sends : (m : Limits) (budget : ℕ) (s : State) → Sends s.next (runs m budget s).state.next (sent_in (Ran (runs m budget s).answer (runs m budget s).made))
+run-sends : (m : Limits) (budget : ℕ) (s : State) → Sends s.next (runs m budget s).state.next (sent_in (ended_by (runs m budget s).answer (runs m budget s).made))
 run-sends m budget s = let w = run-traced m budget s in rw (← w.last) (path-sends m (runs m budget s).made w.path)
 
-ran-answer : (m : Limits) (e : Ended) → (ran_out m e).answer ≡ Ran e.answer e.made
+ran-answer : (m : Limits) (e : Ended) → (ran_out m e).answer ≡ ended_by e.answer e.made
 unfolding ran_out
 ran-answer m e = refl
 
@@ -243,8 +243,8 @@ rejected-silent r kept work = refl
 
 taken_next : (v : Verdict) (s : State) (answer : List ℕ) → s.next ≤ (taken v (replied_state s answer) s).next
 unfolding taken replied_state
-taken_next Accepted s answer = omega arith
-taken_next (Refused r) s answer = omega arith
+taken_next (Ok tt) s answer = omega arith
+taken_next (Err r) s answer = omega arith
 
 cond-next : (t : Bool) (new old : State) → old.next ≤ new.next → old.next ≤ (cond t new old).next
 cond-next true new old h = h
@@ -277,6 +277,6 @@ climbs-distinct low [] c = refl
 climbs-distinct low (k ∷ ks) (a, c) = both _ _ (ap not (climbs-fresh k (suc k) ks (omega arith) c)) (climbs-distinct (suc k) ks c)
 
 -- "every call sent has its own number": no number is sent twice in a history
-pub sent-once : (m : Limits) → Board m → (file kept : List ℕ) → AllBytes file → (load m file kept).verdict ≡ Accepted → (vs : List Move)
+pub sent-once : (m : Limits) → Board m → (file kept : List ℕ) → AllBytes file → (load m file kept).verdict ≡ Ok tt → (vs : List Move)
     → distinct (sends m (load m file kept).record' vs) ≡ true
 sent-once m k file kept h e vs = climbs-distinct _ _ (sends-climb m k (file_types file) (ty_of (file_tree file)) _ vs (load-holds m k file kept h e))

@@ -1,10 +1,10 @@
--- The order of refusals: each entry's lines as document 01 lists them; the verdict is the first that applies, and there is only one. Assumes nothing.
+-- The order of refusals: each entry's lines in their order; the verdict is the first that applies, and there is only one.
 use Prim.Native.Nat.{ℕ, ◌+◌, ◌*◌, ◌≤◌}
 use mathlib.Core.Path.{◌≡◌, refl, ap, sym, ◌∙◌}
 use mathlib.Core.Bool.{Bool, true, false, cond, false≢true}
 use mathlib.Core.List.{List, [], ◌∷◌}
 use mathlib.Core.Logic.{◌⊎◌, inl, inr}
-use mathlib.Core.Option.{Option, none, some}
+use Rattle.std.specs.Prelude.{Option, None, Some}
 use native.Mathlib.Omega.{arith}
 use borrow.Author.Tests.{eqb-true, eq-eqb, leb-true, le-leb}
 use lib.Dec.{eqb}
@@ -17,15 +17,14 @@ use Rattle.meaning.specs.Steps.{settle}
 use Rattle.meaning.specs.Records.{State, version, state_of, sound, listed, first_not}
 use Rattle.meaning.specs.Entries.{require, refuse, refuse_shape, file_no, file_edition, file_type_count, file_row_count, file_types, file_rows, file_tree, no_future, program_verdict, load_verdict, load, lent, Ended, ran_out, rejected, run, runs, reply_no, reply_number, reply_count, reply_rows, reply_tree, reply_head_ok, reply_kind, reply_bad, answer_verdict, reply_verdict, replied_out, reply}
 use Rattle.meaning.specs.declared.Fault.{Fault}
-use Rattle.meaning.specs.declared.Shape.{Shape}
-use Rattle.meaning.specs.declared.Shape.TheVariants.{Whole, Bad}
+use Rattle.meaning.specs.Terms.{Shape}
 use Rattle.meaning.specs.declared.Refusal.{Refusal}
 use Rattle.meaning.specs.declared.Refusal.TheVariants.{Length, Size, Mark, Version, Count, TypeRow, Row, Future, Typing, Unsound, Header, NotOpen, ReplyRow, ReplyKind, ReplyTyping, ReplyRoom}
-use Rattle.meaning.specs.declared.Verdict.{Verdict}
-use Rattle.meaning.specs.declared.Verdict.TheVariants.{Accepted, Refused}
+use Rattle.meaning.specs.Answers.{Verdict}
+use Rattle.std.specs.Prelude.{Ok, Err}
+use Rattle.meaning.proofs.Bytes.RowTables.{bad-parts}
 use Rattle.meaning.proofs.Trees.Tests.{both, left, right, within-if, within_of, numbers-is, numbers-same, none-some}
-use Rattle.meaning.specs.declared.Run.{Run}
-use Rattle.meaning.specs.declared.Run.TheVariants.{Ran, Rejected}
+use Rattle.meaning.specs.Answers.{Run}
 
 -- Lines ------------------------------------------------------------------------------------------------------------
 
@@ -40,16 +39,16 @@ fact_line P r = record { asks = P; gives = λ x. (P → ⊥) × (x ≡ r) }
 
 -- nothing is found, or something at a place
 abbrev pub find_line : Option ℕ → (ℕ → Refusal) → Line
-find_line o f = record { asks = o ≡ none; gives = λ x. (i : ℕ) × (o ≡ some i) × (x ≡ f i) }
+find_line o f = record { asks = o ≡ None; gives = λ x. (i : ℕ) × (o ≡ Some i) × (x ≡ f i) }
 
 -- one tree, or a fault at a place
 abbrev pub shape_line : Shape → (Fault → ℕ → Refusal) → Line
-shape_line s f = record { asks = s ≡ Whole; gives = λ x. (g : Fault) × (i : ℕ) × (s ≡ Bad g i) × (x ≡ f g i) }
+shape_line s f = record { asks = s ≡ (Ok tt); gives = λ x. (g : Fault) × (i : ℕ) × (s ≡ Err (g, i)) × (x ≡ f g i) }
 
 -- the verdict by lines in order: the first whose asking fails gives the refusal; accepted where none fails
 unfoldable pub First : List Line → Verdict → Type 0
-First [] v = v ≡ Accepted
-First (l ∷ ls) v = ((r : Refusal) × l.gives r × (v ≡ Refused r)) ⊎ (l.asks × First ls v)
+First [] v = v ≡ Ok tt
+First (l ∷ ls) v = ((r : Refusal) × l.gives r × (v ≡ Err r)) ⊎ (l.asks × First ls v)
 
 -- "Load: 1, 2 (under 10), 3, 4, 5, 2, 6, 7, 8, 9"
 abbrev pub load_lines : Limits → List ℕ → ℕ → List Line
@@ -72,14 +71,14 @@ run_lines m kept work = fact_line ((length kept ≡ record_bytes m) × (length w
 
 -- the type under which a number is listed
 abbrev pub listed_type : Option ℕ → ℕ
-listed_type none = 0
-listed_type (some t) = t
+listed_type None = 0
+listed_type (Some t) = t
 
 -- "11 to 16"
 abbrev pub answer_lines : Limits → State → List ℕ → List Line
 answer_lines m s answer =
     fact_line ((width reply_head ≤ length answer) × ((1 ≤ reply_count answer) × (reply_count answer ≤ m.reply_rows)) × (reply_no 2 answer ≡ 0) × (length answer ≡ width reply_head + width term_row * reply_count answer)) Header
-    ∷ fact_line ((t : ℕ) × (listed s.calls (reply_number answer) ≡ some t)) NotOpen
+    ∷ fact_line ((t : ℕ) × (listed s.calls (reply_number answer) ≡ Some t)) NotOpen
     ∷ shape_line (shape version (length s.types) (reply_rows answer)) ReplyRow
     ∷ find_line (first_not reply_kind (reply_rows answer)) ReplyKind
     ∷ find_line (reply_bad (form_of s.types) (listed_type (listed s.calls (reply_number answer))) (reply_tree answer)) ReplyTyping
@@ -100,15 +99,15 @@ first-require ls P false r v h k f = inl (r, ((λ p. false≢true (k p)), refl),
 
 pub first-refuse : (ls : List Line) (o : Option ℕ) (g : ℕ → Refusal) (v : Verdict) → First ls v → First (find_line o g ∷ ls) (refuse o g v)
 unfolding First refuse
-first-refuse ls none g v f = inr (refl, f)
-first-refuse ls (some i) g v f = inl (g i, (i, refl, refl), refl)
+first-refuse ls None g v f = inr (refl, f)
+first-refuse ls (Some i) g v f = inl (g i, (i, refl, refl), refl)
 
 pub first-shape : (ls : List Line) (s : Shape) (g : Fault → ℕ → Refusal) (v : Verdict) → First ls v → First (shape_line s g ∷ ls) (refuse_shape s g v)
 unfolding First refuse_shape
-first-shape ls Whole g v f = inr (refl, f)
-first-shape ls (Bad x i) g v f = inl (g x i, (x, i, refl, refl), refl)
+first-shape ls (Ok tt) g v f = inr (refl, f)
+first-shape ls (Err (x, i)) g v f = inl (g x i, (x, i, refl, refl), refl)
 
-first-fails : (ls : List Line) (P : Type 0) (r : Refusal) → (P → ⊥) → First (fact_line P r ∷ ls) (Refused r)
+first-fails : (ls : List Line) (P : Type 0) (r : Refusal) → (P → ⊥) → First (fact_line P r ∷ ls) (Err r)
 unfolding First
 first-fails ls P r h = inl (r, (h, refl), refl)
 
@@ -116,7 +115,7 @@ pub line-holds : (l : Line) (ls : List Line) (v : Verdict) → l.asks → First 
 unfolding First
 line-holds l ls v p f = inr (p, f)
 
-pub lines-done : First [] Accepted
+pub lines-done : First [] (Ok tt)
 unfolding First
 lines-done = refl
 
@@ -125,10 +124,10 @@ unfoldable pub AllAsk : List Line → Type 0
 AllAsk [] = Unit {0}
 AllAsk (l ∷ ls) = l.asks × AllAsk ls
 
-pub never-accepted : (r : Refusal) → Refused r ≡ Accepted → ⊥
+pub never-accepted : (r : Refusal) → ◌≡◌ {A = Verdict} (Err r) (Ok tt) → ⊥
 never-accepted r e = let z : ◌≡◌ {A = ℕ} 0 1 = cc in omega arith
 
-pub first-accepted : (ls : List Line) (v : Verdict) → First ls v → v ≡ Accepted → AllAsk ls
+pub first-accepted : (ls : List Line) (v : Verdict) → First ls v → v ≡ Ok tt → AllAsk ls
 unfolding First AllAsk
 first-accepted [] v f e = tt
 first-accepted (l ∷ ls) v (inl (r, g, q)) e = absurd (never-accepted r (sym q ∙ e))
@@ -163,8 +162,8 @@ load-in-order m file kept = verdict-in-order m file (length kept)
 
 -- a run's refusal, as a verdict
 abbrev pub run_verdict : Run → Verdict
-run_verdict (Ran a n) = Accepted
-run_verdict (Rejected r) = Refused r
+run_verdict (Ok r) = Ok tt
+run_verdict (Err r) = Err r
 
 lent-told : (m : Limits) (kept work : List ℕ) → lent m kept work ≡ true → (length kept ≡ record_bytes m) × (length work ≡ m.work_bytes)
 unfolding lent
@@ -175,7 +174,7 @@ unfolding lent
 lent_of m kept work (a, b) = both _ _ (eq-eqb _ _ a) (eq-eqb _ _ b)
 
 run-verdict : (m : Limits) (e : Ended) (kept work : List ℕ) (a b : Bool)
-    → run_verdict (cond a (cond b (ran_out m e) (rejected Unsound kept work)) (rejected Length kept work)).answer ≡ require a Length (require b Unsound Accepted)
+    → run_verdict (cond a (cond b (ran_out m e) (rejected Unsound kept work)) (rejected Length kept work)).answer ≡ require a Length (require b Unsound (Ok tt))
 unfolding ran_out rejected require
 run-verdict m e kept work true true = refl
 run-verdict m e kept work true false = refl
@@ -207,16 +206,16 @@ header_of m answer (a, (b, c), d, e) = both _ _ (le-leb _ _ a) (both _ _ (within
 -- the lines behind the header, by the type under which the number is listed
 open-in-order : (m : Limits) (s : State) (answer : List ℕ) (o : Option ℕ)
     → First
-    (fact_line ((t : ℕ) × (o ≡ some t)) NotOpen
+    (fact_line ((t : ℕ) × (o ≡ Some t)) NotOpen
     ∷ shape_line (shape version (length s.types) (reply_rows answer)) ReplyRow
     ∷ find_line (first_not reply_kind (reply_rows answer)) ReplyKind
     ∷ find_line (reply_bad (form_of s.types) (listed_type o) (reply_tree answer)) ReplyTyping
     ∷ fact_line (size (settle (reply_number answer) (reply_tree answer) s.tree) ≤ m.rows) ReplyRoom
     ∷ []) (answer_verdict m s answer o)
 unfolding answer_verdict
-open-in-order m s answer none = first-fails _ _ NotOpen (λ p. none-some p.0 p.1)
-open-in-order m s answer (some t) =
-    line-holds (fact_line ((y : ℕ) × (some t ≡ some y)) NotOpen) _ _ (t, refl)
+open-in-order m s answer None = first-fails _ _ NotOpen (λ p. none-some p.0 p.1)
+open-in-order m s answer (Some t) =
+    line-holds (fact_line ((y : ℕ) × (Some t ≡ Some y)) NotOpen) _ _ (t, refl)
     (first-shape _ (shape version (length s.types) (reply_rows answer)) ReplyRow _
     (first-refuse _ (first_not reply_kind (reply_rows answer)) ReplyKind _
     (first-refuse _ (reply_bad (form_of s.types) t (reply_tree answer)) ReplyTyping _
@@ -227,7 +226,7 @@ unfolding reply_verdict
 answer-in-order m s answer = first-require _ _ _ Header _ (header-told m answer) (header_of m answer) (open-in-order m s answer (listed s.calls (reply_number answer)))
 
 reply-verdict : (m : Limits) (s : State) (answer kept work : List ℕ) (v : Verdict) (a b : Bool)
-    → (cond a (cond b (replied_out m s answer kept work v) (replied_out m s answer kept work (Refused Unsound))) (replied_out m s answer kept work (Refused Length))).verdict
+    → (cond a (cond b (replied_out m s answer kept work v) (replied_out m s answer kept work (Err Unsound))) (replied_out m s answer kept work (Err Length))).verdict
     ≡ require a Length (require b Unsound v)
 unfolding replied_out require
 reply-verdict m s answer kept work v true true = refl
@@ -255,13 +254,13 @@ AllSharp (l ∷ ls) = Sharp l × AllSharp ls
 pub test-sharp : (P : Type 0) (r : Refusal) → Sharp (fact_line P r)
 test-sharp P r = record { never_both = λ x p g. g.0 p; one-refusal = λ x y g h. g.1 ∙ sym h.1 }
 
-some_one : (o : Option ℕ) (i j : ℕ) → o ≡ some i → o ≡ some j → i ≡ j
+some_one : (o : Option ℕ) (i j : ℕ) → o ≡ Some i → o ≡ Some j → i ≡ j
 some_one o i j p q = cc
 
-bad-one : (s : Shape) (g h : Fault) (i j : ℕ) → s ≡ Bad g i → s ≡ Bad h j → (g ≡ h) × (i ≡ j)
-bad-one s g h i j p q = (cc, cc)
+bad-one : (s : Shape) (g h : Fault) (i j : ℕ) → s ≡ Err (g, i) → s ≡ Err (h, j) → (g ≡ h) × (i ≡ j)
+bad-one s g h i j p q = bad-parts h g i j (sym p ∙ q)
 
-whole-bad : (s : Shape) (g : Fault) (i : ℕ) → s ≡ Whole → s ≡ Bad g i → ⊥
+whole-bad : (s : Shape) (g : Fault) (i : ℕ) → s ≡ Ok tt → s ≡ Err (g, i) → ⊥
 whole-bad s g i p q = let z : ◌≡◌ {A = ℕ} 0 1 = cc in omega arith
 
 pub found-sharp : (o : Option ℕ) (f : ℕ → Refusal) → Sharp (find_line o f)
@@ -283,7 +282,7 @@ shaped-sharp s f =
 pub first_one : (ls : List Line) (v w : Verdict) → AllSharp ls → First ls v → First ls w → v ≡ w
 unfolding First AllSharp
 first_one [] v w k p q = p ∙ sym q
-first_one (l ∷ ls) v w (s, k) (inl (r, g, e)) (inl (t, h, f)) = e ∙ ap Refused (s.one-refusal r t g h) ∙ sym f
+first_one (l ∷ ls) v w (s, k) (inl (r, g, e)) (inl (t, h, f)) = e ∙ ap Err (s.one-refusal r t g h) ∙ sym f
 first_one (l ∷ ls) v w (s, k) (inl (r, g, e)) (inr (a, q)) = absurd (s.never_both r a g)
 first_one (l ∷ ls) v w (s, k) (inr (a, p)) (inl (t, h, f)) = absurd (s.never_both t a h)
 first_one (l ∷ ls) v w (s, k) (inr (a, p)) (inr (b, q)) = first_one ls v w k p q

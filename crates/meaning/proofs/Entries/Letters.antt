@@ -4,7 +4,7 @@ use Prim.Native.Nat.{ℕ, ◌-◌, ◌≤◌, ◌<◌}
 use mathlib.Core.Path.{◌≡◌, refl, ap, sym, ◌∙◌}
 use mathlib.Core.Bool.{Bool, true, false, cond}
 use mathlib.Core.List.{List, [], ◌∷◌, ◌++◌, map}
-use mathlib.Core.Option.{none, some}
+use Rattle.std.specs.Prelude.{None, Some}
 use native.Mathlib.Omega.{arith}
 use borrow.Author.Tests.{eqb-true}
 use lib.ListN.{length, drop, get_or, replicate}
@@ -15,11 +15,11 @@ use Rattle.meaning.specs.Steps.{Call}
 use Rattle.meaning.specs.Records.{State, state_of, sound, listed}
 use Rattle.meaning.specs.Entries.{leaves, loaded_state, load, sent, letter_of, runs, lent, ran_out, rejected, run, reply_kind, replied_state, reply_verdict, replied_out, reply}
 use Rattle.meaning.specs.declared.Refusal.TheVariants.{Length, Unsound}
-use Rattle.meaning.specs.declared.Verdict.{Verdict}
-use Rattle.meaning.specs.declared.Verdict.TheVariants.{Accepted, Refused}
+use Rattle.meaning.specs.Answers.{Verdict}
+use Rattle.std.specs.Prelude.{Ok, Err}
 use Rattle.meaning.specs.declared.Answer.{Answer}
 use Rattle.meaning.specs.declared.Answer.TheVariants.{Sent, Budget}
-use Rattle.meaning.specs.declared.Run.TheVariants.{Ran}
+use Rattle.meaning.specs.Answers.{ended_by}
 use Rattle.meaning.proofs.Trees.Tests.{left, right}
 use Rattle.meaning.proofs.Trees.ByKind.{foreign-is}
 use Rattle.meaning.proofs.Trees.EachRow.{AllRows, every-rows, everys-rows, rows_left, rows_right}
@@ -40,7 +40,7 @@ use Rattle.meaning.proofs.Entries.Reports.{answered, answered-walk}
 
 -- A send on a good state -------------------------------------------------------------------------------------------
 
-module _ (m : Limits) (k : Board m) (s : State) (g : Good m s) (c : Call) (u : State) (p : PassesTo m s (some c) u) where
+module _ (m : Limits) (k : Board m) (s : State) (g : Good m s) (c : Call) (u : State) (p : PassesTo m s (Some c) u) where
   sender : Sender (form_of s.types) s.next c (flat s.tree)
   sender = sent-from (form_of s.types) s.next s.tree c p.tree g.typed p.steps
 
@@ -97,7 +97,7 @@ module _ (m : Limits) (k : Board m) (s : State) (g : Good m s) (c : Call) (u : S
 record Called (m : Limits) (s : State) (us : List State) (k : ℕ) (l : List ℕ) : Type 0 where
   from : State
   call : Call
-  passes : PassesTo m from (some call) (last_state s us)
+  passes : PassesTo m from (Some call) (last_state s us)
   good : Good m from
   of-program : Of s.types s.program from
   number : from.next ≡ k
@@ -121,8 +121,8 @@ path-called m b (ends-sent {budget} {s} {u} {c} p) g k e =
     let q = sent-same s.next k e in
     record { from = s; call = c; passes = p; good = g; of-program = record { same-types = refl; same-program = refl }; number = q; letter = ap (λ (i : ℕ). letter_of i c) q }
 path-called m b (goes_on {budget} {s} {u} {us} p w) g k e =
-    let d = path-called m b w (step_stays m b s u none p g) k e in
-    let o = step_of m s.types s.program s u none p (record { same-types = refl; same-program = refl }) in
+    let d = path-called m b w (step_stays m b s u None p g) k e in
+    let o = step_of m s.types s.program s u None p (record { same-types = refl; same-program = refl }) in
     record {
       from = d.from;
       call = d.call;
@@ -137,7 +137,7 @@ path-letter : (m : Limits) → Board m → {b : ℕ} {s : State} {us : List Stat
 path-letter m b (ends-halted h) g = omega arith
 path-letter m b (ends-spent p) g = omega arith
 path-letter m b (ends-sent {budget} {s} {u} {c} p) g = letter-room m b s g c u p
-path-letter m b (goes_on {budget} {s} {u} p w) g = path-letter m b w (step_stays m b s u none p g)
+path-letter m b (goes_on {budget} {s} {u} p w) g = path-letter m b w (step_stays m b s u None p g)
 
 path-silent : (m : Limits) {b : ℕ} {s : State} {us : List State} {a : Answer} {l : List ℕ} → RunPath m b s us a l → ((k : ℕ) → a ≡ Sent k → ⊥) → l ≡ []
 path-silent m (ends-halted h) q = refl
@@ -164,19 +164,19 @@ pub record Posted (m : Limits) (kept : List ℕ) (k : ℕ) (kept' work' : List �
   pub arguments : Arguments (form_of (state_of m kept).types) call
   pub kinds : Each (λ r. reply_kind r ≡ true) (sent_rows work')
   -- the call is open under its result type
-  pub entered : listed (state_of m kept').calls k ≡ some call.result
+  pub entered : listed (state_of m kept').calls k ≡ Some call.result
 
 plain-kinds : (l : List Row) → AllRows Plain l → Each (λ r. reply_kind r ≡ true) (map raw l)
 unfolding AllRows Each reply_kind raw
 plain-kinds [] d = tt
 plain-kinds (r ∷ l) (e, d) = (e, plain-kinds l d)
 
-sent-listed : (m : Limits) (s u : State) (c : Call) → Good m s → PassesTo m s (some c) u → listed u.calls s.next ≡ some c.result
+sent-listed : (m : Limits) (s u : State) (c : Call) → Good m s → PassesTo m s (Some c) u → listed u.calls s.next ≡ Some c.result
 unfolding behind_step sent
 sent-listed m s u c g p = rw p.state (listed-new s.calls (record { number = s.next; type = c.result }) g.calls_below)
 
 module _ (m : Limits) (k : Board m) (kept work : List ℕ) (budget : ℕ) (bytes : AllBytes kept) where
-  pub run-posts : (number n : ℕ) → (run m kept work budget).answer ≡ Ran (Sent number) n → Posted m kept number (run m kept work budget).record' (run m kept work budget).work'
+  pub run-posts : (number n : ℕ) → (run m kept work budget).answer ≡ ended_by (Sent number) n → Posted m kept number (run m kept work budget).record' (run m kept work budget).work'
   unfolding lent padded
   run-posts number n q =
       let x = answered m kept work budget (Sent number) n q in
@@ -195,7 +195,7 @@ module _ (m : Limits) (k : Board m) (kept work : List ℕ) (budget : ℕ) (bytes
       ap (λ (j : ℕ). reads term_row j (drop (width call_head) (run m kept work budget).work')) (ap (λ (l : List ℕ). get_or l 2 0) h)
       ∙ ap (λ (y : List ℕ). reads term_row (length c.rows) (drop (width call_head) y)) b
       ∙ letter-numbers number c f zs in
-      let j : state_of m (run m kept work budget).record' ≡ last = ap (state_of m) w.kept-bytes ∙ state-record m last k.small (step_stays m k d.from last (some c) d.passes d.good) in
+      let j : state_of m (run m kept work budget).record' ≡ last = ap (state_of m) w.kept-bytes ∙ state-record m last k.small (step_stays m k d.from last (Some c) d.passes d.good) in
       record {
         call = c;
         fits = r;
@@ -208,17 +208,17 @@ module _ (m : Limits) (k : Board m) (kept work : List ℕ) (budget : ℕ) (bytes
       }
 
   -- "after other answers .. only zeros"
-  pub run-silent : (a : Answer) (n : ℕ) → (run m kept work budget).answer ≡ Ran a n → ((number : ℕ) → a ≡ Sent number → ⊥) → (run m kept work budget).work' ≡ replicate m.work_bytes 0
+  pub run-silent : (a : Answer) (n : ℕ) → (run m kept work budget).answer ≡ ended_by a n → ((number : ℕ) → a ≡ Sent number → ⊥) → (run m kept work budget).work' ≡ replicate m.work_bytes 0
   run-silent a n q quiet =
       let w = answered-walk m kept work budget a n q in
       w.work-bytes ∙ ap (padded m.work_bytes) (path-silent m w.path quiet) ∙ padded-none m.work_bytes
 
 -- The buffers keep their length ------------------------------------------------------------------------------------
 
-leaves-length : (v : Verdict) (new old : List ℕ) → (v ≡ Accepted → length new ≡ length old) → length (leaves v new old) ≡ length old
+leaves-length : (v : Verdict) (new old : List ℕ) → (v ≡ Ok tt → length new ≡ length old) → length (leaves v new old) ≡ length old
 unfolding leaves
-leaves-length Accepted new old h = h refl
-leaves-length (Refused r) new old h = refl
+leaves-length (Ok tt) new old h = h refl
+leaves-length (Err r) new old h = refl
 
 pub load-lengths : (m : Limits) → Board m → (file kept : List ℕ) → AllBytes file → length (load m file kept).record' ≡ length kept
 unfolding load
@@ -252,8 +252,8 @@ reply-lengths m k kept work answer h = go (lent m kept work) (sound m kept) refl
     s = state_of m kept
 
     go : (a b : Bool) → lent m kept work ≡ a → sound m kept ≡ b
-        → (length (cond a (cond b (replied_out m s answer kept work (reply_verdict m s answer)) (replied_out m s answer kept work (Refused Unsound))) (replied_out m s answer kept work (Refused Length))).record' ≡ length kept)
-        × (length (cond a (cond b (replied_out m s answer kept work (reply_verdict m s answer)) (replied_out m s answer kept work (Refused Unsound))) (replied_out m s answer kept work (Refused Length))).work' ≡ length work)
+        → (length (cond a (cond b (replied_out m s answer kept work (reply_verdict m s answer)) (replied_out m s answer kept work (Err Unsound))) (replied_out m s answer kept work (Err Length))).record' ≡ length kept)
+        × (length (cond a (cond b (replied_out m s answer kept work (reply_verdict m s answer)) (replied_out m s answer kept work (Err Unsound))) (replied_out m s answer kept work (Err Length))).work' ≡ length work)
     go true true e q =
         let n = eqb-true (length kept) _ (left _ _ e) in
         let g = good-state m kept k.small n h q in (

@@ -1,10 +1,10 @@
--- Demand 2 of load: a file is accepted exactly if it is of legal form and well typed; of legal form and not well typed, it is
+-- Load: a file is accepted exactly if it is of legal form and well typed; of legal form and not well typed, it is
 -- refused at the first row whose own rule fails. Assumes nothing.
 use Prim.Native.Nat.{ℕ}
 use mathlib.Core.Path.{◌≡◌, refl, ap, ◌∙◌}
 use mathlib.Core.Logic.{◌↔◌}
 use mathlib.Core.List.{List, []}
-use mathlib.Core.Option.{Option, none, some}
+use Rattle.std.specs.Prelude.{Option, None, Some}
 use lib.ListN.{length}
 use Rattle.meaning.specs.Bytes.{Limits, record_bytes}
 use Rattle.meaning.specs.Types.{form_of, empty}
@@ -12,14 +12,14 @@ use Rattle.meaning.specs.Typing.{Typed, first_bad}
 use Rattle.meaning.specs.Entries.{refuse, load, load_verdict, LegalFile, file_types, file_tree}
 use Rattle.meaning.specs.declared.Refusal.{Refusal}
 use Rattle.meaning.specs.declared.Refusal.TheVariants.{Typing}
-use Rattle.meaning.specs.declared.Verdict.{Verdict}
-use Rattle.meaning.specs.declared.Verdict.TheVariants.{Accepted, Refused}
+use Rattle.meaning.specs.Answers.{Verdict}
+use Rattle.std.specs.Prelude.{Ok, Err}
 use Rattle.meaning.proofs.Typing.FirstBad.{typed-if, typed-of}
 use Rattle.meaning.proofs.Entries.InOrder.{load_lines, first-refuse, line-holds, lines-done, AllAsk, first-accepted, verdict-in-order, first_one, load-order-one}
 
 -- of a legal file only the typing is left to test
 pub legal-verdict : (m : Limits) (file : List ℕ) → LegalFile m file
-    → load_verdict m file (record_bytes m) ≡ refuse (first_bad (form_of (file_types file)) empty (file_tree file)) Typing Accepted
+    → load_verdict m file (record_bytes m) ≡ refuse (first_bad (form_of (file_types file)) empty (file_tree file)) Typing (Ok tt)
 legal-verdict m file l =
     first_one (load_lines m file (record_bytes m)) _ _ (load-order-one m file (record_bytes m)) (verdict-in-order m file (record_bytes m))
     (line-holds _ _ _ refl
@@ -30,11 +30,11 @@ legal-verdict m file l =
     (line-holds _ _ _ l.size
     (line-holds _ _ _ l.types-good
     (line-holds _ _ _ l.one-tree
-    (line-holds _ _ _ l.no-future (first-refuse [] (first_bad (form_of (file_types file)) empty (file_tree file)) Typing Accepted lines-done))))))))))
+    (line-holds _ _ _ l.no-future (first-refuse [] (first_bad (form_of (file_types file)) empty (file_tree file)) Typing (Ok tt) lines-done))))))))))
 
 -- an accepted file is of legal form, and its rows keep their rules
-pub accepted-legal : (m : Limits) (file : List ℕ) (room : ℕ) → load_verdict m file room ≡ Accepted
-    → (room ≡ record_bytes m) × LegalFile m file × (first_bad (form_of (file_types file)) empty (file_tree file) ≡ none)
+pub accepted-legal : (m : Limits) (file : List ℕ) (room : ℕ) → load_verdict m file room ≡ Ok tt
+    → (room ≡ record_bytes m) × LegalFile m file × (first_bad (form_of (file_types file)) empty (file_tree file) ≡ None)
 unfolding AllAsk
 accepted-legal m file room e =
     let (a, (b, (c, (d, ((f, (t₁, t₂), (r₁, r₂)), (g, (h, (i, (j, (k, _)))))))))) = first-accepted (load_lines m file room) _ (verdict-in-order m file room) e in (
@@ -56,21 +56,21 @@ accepted-legal m file room e =
       k,
     )
 
-pub refuse-pass : (o : Option ℕ) (f : ℕ → Refusal) (v : Verdict) → o ≡ none → refuse o f v ≡ v
+pub refuse-pass : (o : Option ℕ) (f : ℕ → Refusal) (v : Verdict) → o ≡ None → refuse o f v ≡ v
 unfolding refuse
 refuse-pass o f v e = rw e refl
 
--- demand 2: "A program of legal form is accepted exactly if it is well typed"
+-- "A program of legal form is accepted exactly if it is well typed"
 pub accepts : (m : Limits) (file kept : List ℕ) → length kept ≡ record_bytes m
-    → ((load m file kept).verdict ≡ Accepted) ↔ (LegalFile m file × Typed (form_of (file_types file)) empty (file_tree file))
+    → ((load m file kept).verdict ≡ Ok tt) ↔ (LegalFile m file × Typed (form_of (file_types file)) empty (file_tree file))
 unfolding load
 accepts m file kept n = (
   (λ e. let (_, l, k) = accepted-legal m file (length kept) e in (l, typed-if (form_of (file_types file)) empty (file_tree file) k)),
-  (λ p. ap (λ (r : ℕ). load_verdict m file r) n ∙ legal-verdict m file p.0 ∙ refuse-pass _ Typing Accepted (typed-of (form_of (file_types file)) empty (file_tree file) p.1)),
+  (λ p. ap (λ (r : ℕ). load_verdict m file r) n ∙ legal-verdict m file p.0 ∙ refuse-pass _ Typing (Ok tt) (typed-of (form_of (file_types file)) empty (file_tree file) p.1)),
 )
 
 -- "else refused at the stated row"
 pub refuses-row : (m : Limits) (file kept : List ℕ) (i : ℕ) → length kept ≡ record_bytes m → LegalFile m file
-    → first_bad (form_of (file_types file)) empty (file_tree file) ≡ some i → (load m file kept).verdict ≡ Refused (Typing i)
+    → first_bad (form_of (file_types file)) empty (file_tree file) ≡ Some i → (load m file kept).verdict ≡ Err (Typing i)
 unfolding load refuse
 refuses-row m file kept i n l e = ap (λ (r : ℕ). load_verdict m file r) n ∙ legal-verdict m file l ∙ rw e refl

@@ -10,13 +10,13 @@ use Rattle.meaning.specs.Bytes.{◌∧ᵇ◌, Limits, record_bytes}
 use Rattle.meaning.specs.Records.{State, record_of}
 use Rattle.meaning.specs.Entries.{leaves, load, loaded_state, runs, lent, ran_out, rejected, run, replied_out, reply_verdict, reply}
 use Rattle.meaning.specs.declared.Refusal.TheVariants.{Length}
-use Rattle.meaning.specs.declared.Verdict.TheVariants.{Accepted, Refused}
+use Rattle.std.specs.Prelude.{Ok, Err}
 use Rattle.meaning.proofs.Trees.Tests.{both}
 use Rattle.meaning.proofs.Bytes.Records.{Small, Good, record-length, state-record, sound-record}
 
 -- Load -----------------------------------------------------------------------------------------------------------
 
-pub load-writes : (m : Limits) (file kept : List ℕ) → (load m file kept).verdict ≡ Accepted → (load m file kept).record' ≡ record_of m (loaded_state file)
+pub load-writes : (m : Limits) (file kept : List ℕ) → (load m file kept).verdict ≡ Ok tt → (load m file kept).record' ≡ record_of m (loaded_state file)
 unfolding load leaves
 load-writes m file kept e = rw e refl
 
@@ -43,6 +43,6 @@ module _ (m : Limits) (small : Small m) (s : State) (g : Good m s) (work : List 
   unfolding reply
   reply-good answer w = rw (lent-right w, sound-record m s small g, state-record m s small g) refl
 
-  pub reply-short : (answer : List ℕ) → eqb (length work) m.work_bytes ≡ false → reply m (record_of m s) work answer ≡ replied_out m s answer (record_of m s) work (Refused Length)
+  pub reply-short : (answer : List ℕ) → eqb (length work) m.work_bytes ≡ false → reply m (record_of m s) work answer ≡ replied_out m s answer (record_of m s) work (Err Length)
   unfolding reply
   reply-short answer w = rw (lent-wrong w, state-record m s small g) refl

@@ -3,7 +3,7 @@ use Prim.Native.Nat.{ℕ, suc, ◌≤◌, ◌<◌}
 use mathlib.Core.Path.{◌≡◌, refl, ap, sym, ◌∙◌}
 use mathlib.Core.Bool.{Bool, true, false, cond}
 use mathlib.Core.List.{List, [], ◌∷◌, ◌++◌}
-use mathlib.Core.Option.{Option, none, some}
+use Rattle.std.specs.Prelude.{Option, None, Some}
 use native.Mathlib.Omega.{arith}
 use borrow.Author.Tests.{ltb-true, lt-ltb, eqb-true, ne_eqb, eq-eqb}
 use lib.Dec.{eqb}
@@ -34,17 +34,17 @@ rises-with [] e low h b r = both _ _ (lt-ltb low e.number h) refl
 rises-with (x ∷ es) e low h (p, b) r = both _ _ (left _ _ r) (rises-with es e x.number p b (right _ _ r))
 
 -- numbers that are listed stay so, under the same type
-pub listed-with : (es : List Entry) (e : Entry) (k ty : ℕ) → listed es k ≡ some ty → listed (es ++ (e ∷ [])) k ≡ some ty
+pub listed-with : (es : List Entry) (e : Entry) (k ty : ℕ) → listed es k ≡ Some ty → listed (es ++ (e ∷ [])) k ≡ Some ty
 unfolding listed
 listed-with [] e k ty q = absurd (none-some ty q)
 listed-with (x ∷ es) e k ty q = go (eqb x.number k) (listed-with es e k ty) q
   where
-    go : (b : Bool) → (listed es k ≡ some ty → listed (es ++ (e ∷ [])) k ≡ some ty) → cond b (some x.type) (listed es k) ≡ some ty → cond b (some x.type) (listed (es ++ (e ∷ [])) k) ≡ some ty
+    go : (b : Bool) → (listed es k ≡ Some ty → listed (es ++ (e ∷ [])) k ≡ Some ty) → cond b (Some x.type) (listed es k) ≡ Some ty → cond b (Some x.type) (listed (es ++ (e ∷ [])) k) ≡ Some ty
     go true ih q = q
     go false ih q = ih q
 
 -- and the one entered is listed
-pub listed-new : (es : List Entry) (e : Entry) → Below e.number es → listed (es ++ (e ∷ [])) e.number ≡ some e.type
+pub listed-new : (es : List Entry) (e : Entry) → Below e.number es → listed (es ++ (e ∷ [])) e.number ≡ Some e.type
 unfolding listed Each
 listed-new [] e b = rw (eq-eqb e.number e.number refl) refl
 listed-new (x ∷ es) e (p, b) = rw (ne_eqb x.number e.number (λ q. omega arith)) (listed-new es e b)
@@ -55,19 +55,19 @@ length-with es e = length-append es (e ∷ []) ∙ omega arith
 -- Taking one out -------------------------------------------------------------------------------------------------
 
 -- the number taken out is gone, the list being in rising order
-above : (es : List Entry) (low k : ℕ) → k ≤ low → rises low es ≡ true → listed es k ≡ none
+above : (es : List Entry) (low k : ℕ) → k ≤ low → rises low es ≡ true → listed es k ≡ None
 unfolding rises listed
 above [] low k h r = refl
 above (x ∷ es) low k h r =
     let p = ltb-true low x.number (left _ _ r) in
     rw (ne_eqb x.number k (λ e. omega arith)) (above es x.number k (omega arith) (right _ _ r))
 
-pub gone : (k : ℕ) (es : List Entry) (low : ℕ) → rises low es ≡ true → listed (without k es) k ≡ none
+pub gone : (k : ℕ) (es : List Entry) (low : ℕ) → rises low es ≡ true → listed (without k es) k ≡ None
 unfolding rises listed without
 gone k [] low r = refl
 gone k (x ∷ es) low r = go (eqb x.number k) refl (gone k es x.number (right _ _ r))
   where
-    go : (b : Bool) → eqb x.number k ≡ b → listed (without k es) k ≡ none → listed (cond b es (x ∷ without k es)) k ≡ none
+    go : (b : Bool) → eqb x.number k ≡ b → listed (without k es) k ≡ None → listed (cond b es (x ∷ without k es)) k ≡ None
     go true q ih = let e = eqb-true x.number k q in above es x.number k (omega arith) (right _ _ r)
     go false q ih = rw q ih
 
@@ -109,20 +109,20 @@ unfolding listed without
 listed-without k j [] n = refl
 listed-without k j (x ∷ es) n = go (eqb x.number k) refl (listed-without k j es n)
   where
-    go : (b : Bool) → eqb x.number k ≡ b → listed (without k es) j ≡ listed es j → listed (cond b es (x ∷ without k es)) j ≡ cond (eqb x.number j) (some x.type) (listed es j)
+    go : (b : Bool) → eqb x.number k ≡ b → listed (without k es) j ≡ listed es j → listed (cond b es (x ∷ without k es)) j ≡ cond (eqb x.number j) (Some x.type) (listed es j)
     go true q ih = sym (rw (ne_eqb x.number j (λ e. n (sym e ∙ eqb-true x.number k q))) refl)
-    go false q ih = ap (λ (o : Option ℕ). cond (eqb x.number j) (some x.type) o) ih
+    go false q ih = ap (λ (o : Option ℕ). cond (eqb x.number j) (Some x.type) o) ih
 
-some_same : (a b : ℕ) → ◌≡◌ {A = Option ℕ} (some a) (some b) → a ≡ b
+some_same : (a b : ℕ) → ◌≡◌ {A = Option ℕ} (Some a) (Some b) → a ≡ b
 some_same a b e = cc
 
 -- what is known of each entry is known of a number that is listed
-pub listed-fact : (P : Entry → Type 0) (es : List Entry) (k ty : ℕ) → Each P es → listed es k ≡ some ty → P (record { number = k; type = ty })
+pub listed-fact : (P : Entry → Type 0) (es : List Entry) (k ty : ℕ) → Each P es → listed es k ≡ Some ty → P (record { number = k; type = ty })
 unfolding listed Each
 listed-fact P [] k ty p q = absurd (none-some ty q)
 listed-fact P (x ∷ es) k ty (p, ps) q = go (eqb x.number k) refl q (listed-fact P es k ty ps)
   where
-    go : (b : Bool) → eqb x.number k ≡ b → cond b (some x.type) (listed es k) ≡ some ty → (listed es k ≡ some ty → P (record { number = k; type = ty })) → P (record { number = k; type = ty })
+    go : (b : Bool) → eqb x.number k ≡ b → cond b (Some x.type) (listed es k) ≡ Some ty → (listed es k ≡ Some ty → P (record { number = k; type = ty })) → P (record { number = k; type = ty })
     go true e q ih =
         let d : x ≡ record { number = k; type = ty } = λ i. record { number = eqb-true x.number k e i; type = some_same x.type ty q i } in
         rw d at p

@@ -1,11 +1,11 @@
--- Demands 2 and 3 in the paper's words: a file of legal form is accepted exactly if by the paper's rules, with document 01's additions, every
+-- Load, run and reply in the paper's words: a file of legal form is accepted exactly if by the paper's rules, with the house's additions, every
 -- row has the type that it states; a reply exactly if by them it has its call's type; a good state's term has the program's. Assumes nothing.
 use Prim.Native.Nat.{ℕ, ◌≤◌, ◌<◌}
 use mathlib.Core.Path.{◌≡◌}
 use mathlib.Core.Bool.{true}
 use mathlib.Core.Logic.{◌↔◌}
 use mathlib.Core.List.{List}
-use mathlib.Core.Option.{none, some}
+use Rattle.std.specs.Prelude.{None, Some}
 use lib.ListN.{length}
 use Rattle.meaning.specs.Bytes.{Limits, record_bytes, type_row}
 use Rattle.meaning.specs.Types.{form_of, ground, bad_type, empty}
@@ -15,7 +15,7 @@ use Rattle.meaning.specs.Paper.{Ty, no_arg, type_of, Has, row}
 use Rattle.meaning.specs.Steps.{value, settle}
 use Rattle.meaning.specs.Records.{State, Entry, version, listed}
 use Rattle.meaning.specs.Entries.{load, LegalFile, file_types, file_tree, LegalReply, reply_number, reply_tree, reply_verdict}
-use Rattle.meaning.specs.declared.Verdict.TheVariants.{Accepted}
+use Rattle.std.specs.Prelude.{Ok}
 use Rattle.meaning.proofs.Trees.EachRow.{Every, every-rows, rows-every, all-rows-map}
 use Rattle.meaning.proofs.Bytes.Layouts.{Wide, fits-length, reads-wide}
 use Rattle.meaning.proofs.Bytes.RowTables.{legal, in-range}
@@ -38,7 +38,7 @@ every_in : (count : ℕ) (t : Tree) → Every (legal count) t → Every (InTable
 every_in count t d = rows-every _ t (all-rows-map (legal count) (InTable count) (flat t) (legal-in count) (every-rows _ t d))
 
 -- over a table that passes, the rules of the rows hold exactly if the paper's do
-module _ (rows : List (List ℕ)) (wide : Wide 19 rows) (pass : bad_type version rows ≡ none) (t : Tree) (in_table : Every (legal (length rows)) t) where
+module _ (rows : List (List ℕ)) (wide : Wide 19 rows) (pass : bad_type version rows ≡ None) (t : Tree) (in_table : Every (legal (length rows)) t) where
   pub rows-have : Typed (form_of rows) empty t → Has (type_of (form_of rows)) no_arg t (type_of (form_of rows) (ty_of t))
   rows-have k = typed-has (form_of rows) (length rows) (promised rows pass) empty no_arg t (agrees-empty (type_of (form_of rows)) (length rows)) (every_in (length rows) t in_table) k
 
@@ -51,9 +51,9 @@ pub states : {q : ℕ → Ty} {t : Tree} {T : Ty} → Has q no_arg t T → q (ty
 unfolding ty_of
 states (row r e) = e
 
--- demand 2: "A program of legal form is accepted exactly if it is well typed"
+-- "A program of legal form is accepted exactly if it is well typed"
 pub accepts-paper : (m : Limits) (file kept : List ℕ) → length kept ≡ record_bytes m → LegalFile m file
-    → ((load m file kept).verdict ≡ Accepted) ↔ ((T : Ty) × Has (type_of (form_of (file_types file))) no_arg (file_tree file) T)
+    → ((load m file kept).verdict ≡ Ok tt) ↔ ((T : Ty) × Has (type_of (form_of (file_types file))) no_arg (file_tree file) T)
 unfolding file_types
 accepts-paper m file kept n l = (
   (λ e. (type_of (form_of (file_types file)) (ty_of (file_tree file)), rows-have (file_types file) wide pass (file_tree file) rows ((accepts m file kept n).0 e).1)),
@@ -63,7 +63,7 @@ accepts-paper m file kept n l = (
     wide : Wide 19 (file_types file)
     wide = reads-wide type_row _ _
 
-    pass : bad_type version (file_types file) ≡ none
+    pass : bad_type version (file_types file) ≡ None
     pass = rw l.edition at l.types-good
 
     rows : Every (legal (length (file_types file))) (file_tree file)
@@ -72,10 +72,10 @@ accepts-paper m file kept n l = (
 wide_rows : (m : Limits) (s : State) → Good m s → Wide 19 s.types
 wide_rows m s g = each_more _ _ s.types (λ r f. fits-length type_row r f) g.types_wide
 
--- demand 2: "exactly if its number is open, it is a value of that call's type and it fits"
+-- "exactly if its number is open, it is a value of that call's type and it fits"
 pub record AnswersPaper (m : Limits) (s : State) (answer : List ℕ) : Type 0 where
   pub type : ℕ
-  pub open-call : listed s.calls (reply_number answer) ≡ some type
+  pub open-call : listed s.calls (reply_number answer) ≡ Some type
   pub of-type : Has (type_of (form_of s.types)) no_arg (reply_tree answer) (type_of (form_of s.types) type)
   pub a-value : value (reply_tree answer) ≡ true
   pub fits : size (settle (reply_number answer) (reply_tree answer) s.tree) ≤ m.rows
@@ -85,7 +85,7 @@ module _ (m : Limits) (s : State) (answer : List ℕ) (good : Good m s) (legal-f
   rows-legal = (reply-tree (length s.types) answer legal-form.one-tree).legal-rows
 
   -- the type of an open call stands in the table, and so does the reply's
-  listed_below : (ty : ℕ) → listed s.calls (reply_number answer) ≡ some ty → ty < length s.types
+  listed_below : (ty : ℕ) → listed s.calls (reply_number answer) ≡ Some ty → ty < length s.types
   listed_below ty e =
       ground-stands s.types good.types_pass ty
       (listed-fact (λ (x : Entry). ground (form_of s.types) x.type ≡ true) s.calls (reply_number answer) ty good.calls_ground e)
@@ -96,7 +96,7 @@ module _ (m : Limits) (s : State) (answer : List ℕ) (good : Good m s) (legal-f
       root_below : (t : Tree) → Every (legal (length s.types)) t → ty_of t < length s.types
       root_below t d = ty_below (length s.types) t (every_in (length s.types) t d)
 
-  pub takes-paper : (reply_verdict m s answer ≡ Accepted) ↔ AnswersPaper m s answer
+  pub takes-paper : (reply_verdict m s answer ≡ Ok tt) ↔ AnswersPaper m s answer
   takes-paper = (
     (λ e.
         let a = (takes m s answer good legal-form).0 e in
@@ -118,6 +118,6 @@ module _ (m : Limits) (s : State) (answer : List ℕ) (good : Good m s) (legal-f
         })),
   )
 
--- demand 3: "the term keeps the program's type"
+-- "the term keeps the program's type"
 pub good-has : (m : Limits) (s : State) → Good m s → Has (type_of (form_of s.types)) no_arg s.tree (type_of (form_of s.types) s.program)
 good-has m s g = rw g.program at (rows-have s.types (wide_rows m s g) g.types_pass s.tree g.legal_rows g.typed)

@@ -4,7 +4,7 @@ use Prim.Native.Nat.{ℕ, zero, suc, ◌≤◌, ◌<◌}
 use mathlib.Core.Path.{◌≡◌, refl, ap, sym, ◌∙◌}
 use mathlib.Core.Bool.{true}
 use mathlib.Core.List.{List, [], ◌∷◌}
-use mathlib.Core.Option.{Option, none, some}
+use Rattle.std.specs.Prelude.{Option, None, Some}
 use native.Mathlib.Omega.{arith}
 use lib.ListN.{length}
 use Rattle.meaning.specs.Bytes.{Limits, record_bytes, padded}
@@ -14,7 +14,7 @@ use Rattle.meaning.specs.Records.{State, record_of, state_of, sound}
 use Rattle.meaning.specs.Entries.{stepped, sent, Try, halt, pass, try, Ended, letter_of, again, ended, onward, runs, next_state, after_steps, lent, ran_out, run}
 use Rattle.meaning.specs.declared.Answer.{Answer}
 use Rattle.meaning.specs.declared.Answer.TheVariants.{Sent, Budget}
-use Rattle.meaning.specs.declared.Run.TheVariants.{Ran}
+use Rattle.meaning.specs.Answers.{ended_by}
 use Rattle.meaning.proofs.Bytes.Layouts.{AllBytes, Each}
 use Rattle.meaning.proofs.Bytes.Records.{Good, good-state}
 use Rattle.meaning.proofs.Entries.Running.{Halts, behind_step, PassesTo, halts-when, passes-when, halts-of, passes_of, passes_none, passes-next}
@@ -31,9 +31,9 @@ pub data RunPath (m : Limits) : ℕ → State → List State → Answer → List
   -- none of them holds, and BUDGET does: the budget's steps are made
   ends-spent : {s u : State} {c : Option Call} → PassesTo m s c u → RunPath m 0 s [] Budget []
   -- none of them holds: the step is made and sends. "A send counts as a step and ends the run with 2 SENT"
-  ends-sent : {budget : ℕ} {s u : State} {c : Call} → PassesTo m s (some c) u → RunPath m (suc budget) s (u ∷ []) (Sent s.next) (letter_of s.next c)
+  ends-sent : {budget : ℕ} {s u : State} {c : Call} → PassesTo m s (Some c) u → RunPath m (suc budget) s (u ∷ []) (Sent s.next) (letter_of s.next c)
   -- none of them holds: the step is made and sends nothing, and the run goes on
-  goes_on : {budget : ℕ} {s u : State} {us : List State} {a : Answer} {l : List ℕ} → PassesTo m s none u → RunPath m budget u us a l → RunPath m (suc budget) s (u ∷ us) a l
+  goes_on : {budget : ℕ} {s u : State} {us : List State} {a : Answer} {l : List ℕ} → PassesTo m s None u → RunPath m budget u us a l → RunPath m (suc budget) s (u ∷ us) a l
 
 -- the last state
 unfoldable pub last_state : State → List State → State
@@ -66,10 +66,10 @@ ended-traced m s (pass c u) e = record { states = []; path = ends-spent (passes-
 onward-traced : (m : Limits) (b : ℕ) (s : State) (k : State → Ended) (t : Try) → try m s ≡ t → ((u : State) → Traced m b u (k u)) → Traced m (suc b) s (onward s t k)
 unfolding onward again last_state
 onward-traced m b s k (halt a) e h = record { states = []; path = ends-halted (halts-when m s a e); made = refl; last = refl }
-onward-traced m b s k (pass none u) e h =
+onward-traced m b s k (pass None u) e h =
     let w = h u in
-    record { states = u ∷ w.states; path = goes_on (passes-when m s none u e) w.path; made = ap suc w.made; last = w.last }
-onward-traced m b s k (pass (some c) u) e h = record { states = u ∷ []; path = ends-sent (passes-when m s (some c) u e); made = refl; last = refl }
+    record { states = u ∷ w.states; path = goes_on (passes-when m s None u e) w.path; made = ap suc w.made; last = w.last }
+onward-traced m b s k (pass (Some c) u) e h = record { states = u ∷ []; path = ends-sent (passes-when m s (Some c) u e); made = refl; last = refl }
 
 pub run-traced : (m : Limits) (budget : ℕ) (s : State) → Traced m budget s (runs m budget s)
 unfolding runs
@@ -78,7 +78,7 @@ run-traced m (suc b) s = onward-traced m b s (λ u. runs m b u) (try m s) refl (
 
 -- on bytes: a run on a sound record answers, and goes a path
 pub run-walks : (m : Limits) (kept work : List ℕ) (budget : ℕ) → lent m kept work ≡ true → sound m kept ≡ true
-    → (a : Answer) × (n : ℕ) × ((run m kept work budget).answer ≡ Ran a n) × Walk m kept budget a n (run m kept work budget).record' (run m kept work budget).work'
+    → (a : Answer) × (n : ℕ) × ((run m kept work budget).answer ≡ ended_by a n) × Walk m kept budget a n (run m kept work budget).record' (run m kept work budget).work'
 unfolding run ran_out
 run-walks m kept work budget l s =
     let e = runs m budget (state_of m kept) in
@@ -92,15 +92,15 @@ run-walks m kept work budget l s =
 unfoldable Turn : Limits → ℕ → State → Try → List State → Answer → List ℕ → Type 0
 Turn m b s (halt x) us a l = (us ≡ []) × (a ≡ x) × (l ≡ [])
 Turn m zero s (pass c u) us a l = (us ≡ []) × (a ≡ Budget) × (l ≡ [])
-Turn m (suc b) s (pass (some c) u) us a l = (us ≡ u ∷ []) × (a ≡ Sent s.next) × (l ≡ letter_of s.next c)
-Turn m (suc b) s (pass none u) us a l = (vs : List State) × (us ≡ u ∷ vs) × RunPath m b u vs a l
+Turn m (suc b) s (pass (Some c) u) us a l = (us ≡ u ∷ []) × (a ≡ Sent s.next) × (l ≡ letter_of s.next c)
+Turn m (suc b) s (pass None u) us a l = (vs : List State) × (us ≡ u ∷ vs) × RunPath m b u vs a l
 
 turn : (m : Limits) {b : ℕ} {s : State} {us : List State} {a : Answer} {l : List ℕ} → RunPath m b s us a l → Turn m b s (try m s) us a l
 unfolding Turn
 turn m (ends-halted {budget} {s} {a} h) = rw (halts-of m s a h) (refl, refl, refl)
 turn m (ends-spent {s} {u} {c} p) = rw (passes_of m s c u p) (refl, refl, refl)
-turn m (ends-sent {budget} {s} {u} {c} p) = rw (passes_of m s (some c) u p) (refl, refl, refl)
-turn m (goes_on {budget} {s} {u} {us} p w) = rw (passes_of m s none u p) (us, refl, w)
+turn m (ends-sent {budget} {s} {u} {c} p) = rw (passes_of m s (Some c) u p) (refl, refl, refl)
+turn m (goes_on {budget} {s} {u} {us} p w) = rw (passes_of m s None u p) (us, refl, w)
 
 abbrev Same : List State → List State → Answer → Answer → List ℕ → List ℕ → Type 0
 Same us vs a c l k = (us ≡ vs) × (a ≡ c) × (l ≡ k)
@@ -110,8 +110,8 @@ turn_one : (m : Limits) (b : ℕ) (s : State) (t : Try) (us vs : List State) (a 
     → Turn m (suc b) s t us a l → Turn m (suc b) s t vs c k → Same us vs a c l k
 unfolding Turn
 turn_one m b s (halt x) us vs a c l k h (e₁, e₂, e₃) (q₁, q₂, q₃) = (cc, cc, cc)
-turn_one m b s (pass (some d) u) us vs a c l k h (e₁, e₂, e₃) (q₁, q₂, q₃) = (cc, cc, cc)
-turn_one m b s (pass none u) us vs a c l k h (us', e, w) (vs', q, x) = let (p₁, p₂, p₃) = h u us' vs' w x in (cc, p₂, p₃)
+turn_one m b s (pass (Some d) u) us vs a c l k h (e₁, e₂, e₃) (q₁, q₂, q₃) = (cc, cc, cc)
+turn_one m b s (pass None u) us vs a c l k h (us', e, w) (vs', q, x) = let (p₁, p₂, p₃) = h u us' vs' w x in (cc, p₂, p₃)
 
 turn-none : (m : Limits) (s : State) (t : Try) (us vs : List State) (a c : Answer) (l k : List ℕ) → Turn m 0 s t us a l → Turn m 0 s t vs c k → Same us vs a c l k
 unfolding Turn
@@ -127,7 +127,7 @@ pub path-at-stop : (m : Limits) (budget : ℕ) (s : State) (x : Answer) (us : Li
 path-at-stop m budget s x us a l h p = path-one m budget s us [] a x l [] p (ends-halted h)
 
 -- and it stops at a send
-pub path-at-send : (m : Limits) (budget : ℕ) (s : State) (c : Call) (u : State) (us : List State) (a : Answer) (l : List ℕ) → PassesTo m s (some c) u → RunPath m (suc budget) s us a l
+pub path-at-send : (m : Limits) (budget : ℕ) (s : State) (c : Call) (u : State) (us : List State) (a : Answer) (l : List ℕ) → PassesTo m s (Some c) u → RunPath m (suc budget) s us a l
     → (us ≡ u ∷ []) × (a ≡ Sent s.next) × (l ≡ letter_of s.next c)
 path-at-send m budget s c u us a l h p = path-one m (suc budget) s us (u ∷ []) a (Sent s.next) l (letter_of s.next c) p (ends-sent h)
 
@@ -151,8 +151,8 @@ pub path-keeps : (m : Limits) (P : State → Type 0) → ((s u : State) (c : Opt
 unfolding Each
 path-keeps m P h (ends-halted e) p = tt
 path-keeps m P h (ends-spent q) p = tt
-path-keeps m P h (ends-sent {budget} {s} {u} {c} q) p = (h s u (some c) q p, tt)
-path-keeps m P h (goes_on {budget} {s} {u} q w) p = let r = h s u none q p in (r, path-keeps m P h w r)
+path-keeps m P h (ends-sent {budget} {s} {u} {c} q) p = (h s u (Some c) q p, tt)
+path-keeps m P h (goes_on {budget} {s} {u} q w) p = let r = h s u None q p in (r, path-keeps m P h w r)
 
 pub each_last : (P : State → Type 0) (s : State) (us : List State) → P s → Each P us → P (last_state s us)
 unfolding Each last_state
@@ -171,7 +171,7 @@ state_at s (u ∷ us) (suc i) = state_at u us i
 pub record Goes (m : Limits) (budget : ℕ) (s : State) (us : List State) (i : ℕ) : Type 0 where
   pub no_line : (x : Answer) → Halts m (state_at s us i) x → ⊥
   pub unspent : i < budget
-  pub next : next_state (state_at s us i) ≡ some (state_at s us (suc i))
+  pub next : next_state (state_at s us i) ≡ Some (state_at s us (suc i))
 
 passes-goes : (m : Limits) (b : ℕ) (s u : State) (c : Option Call) (us : List State) → PassesTo m s c u → Goes m (suc b) s (u ∷ us) 0
 unfolding state_at
@@ -184,26 +184,26 @@ goes_later m b s u us i g = record { no_line = g.no_line; unspent = omega (arith
 pub path-goes : (m : Limits) {b : ℕ} {s : State} {us : List State} {a : Answer} {l : List ℕ} → RunPath m b s us a l → (i : ℕ) → i < length us → Goes m b s us i
 path-goes m (ends-halted h) i k = absurd (omega arith)
 path-goes m (ends-spent p) i k = absurd (omega arith)
-path-goes m (ends-sent {budget} {s} {u} {c} p) zero k = passes-goes m budget s u (some c) [] p
+path-goes m (ends-sent {budget} {s} {u} {c} p) zero k = passes-goes m budget s u (Some c) [] p
 path-goes m (ends-sent p) (suc i) k = absurd (omega arith)
-path-goes m (goes_on {budget} {s} {u} {us} p w) zero k = passes-goes m budget s u none us p
+path-goes m (goes_on {budget} {s} {u} {us} p w) zero k = passes-goes m budget s u None us p
 path-goes m (goes_on {budget} {s} {u} {us} p w) (suc i) k = goes_later m budget s u us i (path-goes m w i (omega arith))
 
 -- so the last state is that behind exactly the defined steps, and they are within the budget
-no_step : (s : State) → after_steps 0 s ≡ some s
+no_step : (s : State) → after_steps 0 s ≡ Some s
 unfolding after_steps
 no_step s = refl
 
-first_then : (n : ℕ) (s u : State) (o : Option State) → next_state s ≡ some u → after_steps n u ≡ o → after_steps (suc n) s ≡ o
+first_then : (n : ℕ) (s u : State) (o : Option State) → next_state s ≡ Some u → after_steps n u ≡ o → after_steps (suc n) s ≡ o
 unfolding after_steps
 first_then n s u o e q = rw (e, after_steps) q
 
-pub path-makes : (m : Limits) {b : ℕ} {s : State} {us : List State} {a : Answer} {l : List ℕ} → RunPath m b s us a l → after_steps (length us) s ≡ some (last_state s us)
+pub path-makes : (m : Limits) {b : ℕ} {s : State} {us : List State} {a : Answer} {l : List ℕ} → RunPath m b s us a l → after_steps (length us) s ≡ Some (last_state s us)
 unfolding last_state
 path-makes m (ends-halted {budget} {s} h) = no_step s
 path-makes m (ends-spent {s} p) = no_step s
-path-makes m (ends-sent {budget} {s} {u} {c} p) = first_then 0 s u (some u) (passes-next m s (some c) u p) (no_step u)
-path-makes m (goes_on {budget} {s} {u} {us} p w) = first_then (length us) s u (some (last_state u us)) (passes-next m s none u p) (path-makes m w)
+path-makes m (ends-sent {budget} {s} {u} {c} p) = first_then 0 s u (Some u) (passes-next m s (Some c) u p) (no_step u)
+path-makes m (goes_on {budget} {s} {u} {us} p w) = first_then (length us) s u (Some (last_state u us)) (passes-next m s None u p) (path-makes m w)
 
 pub path-within : (m : Limits) {b : ℕ} {s : State} {us : List State} {a : Answer} {l : List ℕ} → RunPath m b s us a l → length us ≤ b
 path-within m (ends-halted h) = omega arith
@@ -211,8 +211,8 @@ path-within m (ends-spent p) = omega arith
 path-within m (ends-sent p) = omega arith
 path-within m (goes_on p w) = omega (arith, path-within m w)
 
--- demand 2: "A run makes exactly the defined steps, in order, as many as it reports"
-pub run-makes : (m : Limits) (budget : ℕ) (s : State) → after_steps (runs m budget s).made s ≡ some (runs m budget s).state
+-- "A run makes exactly the defined steps, in order, as many as it reports"
+pub run-makes : (m : Limits) (budget : ℕ) (s : State) → after_steps (runs m budget s).made s ≡ Some (runs m budget s).state
 run-makes m budget s = let w = run-traced m budget s in rw (← w.made, ← w.last) (path-makes m w.path)
 
 pub run-within : (m : Limits) (budget : ℕ) (s : State) → (runs m budget s).made ≤ budget
@@ -223,23 +223,23 @@ run-within m budget s = let w = run-traced m budget s in omega (arith, path-with
 pub data PathEnds (m : Limits) (budget : ℕ) (s : State) (us : List State) (a : Answer) (l : List ℕ) : Type 0 where
   stopped : Halts m (last_state s us) a → l ≡ [] → PathEnds m budget s us a l
   spent : a ≡ Budget → length us ≡ budget → (c : Option Call) (u : State) → PassesTo m (last_state s us) c u → l ≡ [] → PathEnds m budget s us a l
-  called : (n : ℕ) (p : State) (c : Call) → length us ≡ suc n → after_steps n s ≡ some p → PassesTo m p (some c) (last_state s us)
+  called : (n : ℕ) (p : State) (c : Call) → length us ≡ suc n → after_steps n s ≡ Some p → PassesTo m p (Some c) (last_state s us)
       → a ≡ Sent p.next → l ≡ letter_of p.next c → PathEnds m budget s us a l
 
-ending-later : (m : Limits) (b : ℕ) (s u : State) (us : List State) (a : Answer) (l : List ℕ) → next_state s ≡ some u → PathEnds m b u us a l → PathEnds m (suc b) s (u ∷ us) a l
+ending-later : (m : Limits) (b : ℕ) (s u : State) (us : List State) (a : Answer) (l : List ℕ) → next_state s ≡ Some u → PathEnds m b u us a l → PathEnds m (suc b) s (u ∷ us) a l
 unfolding last_state
 ending-later m b s u us a l q (stopped x y) = stopped x y
 ending-later m b s u us a l q (spent x n c v y z) = spent x (ap suc n) c v y z
-ending-later m b s u us a l q (called n p c x y z v w) = called (suc n) p c (ap suc x) (first_then n s u (some p) q y) z v w
+ending-later m b s u us a l q (called n p c x y z v w) = called (suc n) p c (ap suc x) (first_then n s u (Some p) q y) z v w
 
 pub path-ends : (m : Limits) {b : ℕ} {s : State} {us : List State} {a : Answer} {l : List ℕ} → RunPath m b s us a l → PathEnds m b s us a l
 unfolding last_state
 path-ends m (ends-halted h) = stopped h refl
 path-ends m (ends-spent {s} {u} {c} p) = spent refl refl c u p refl
 path-ends m (ends-sent {budget} {s} {u} {c} p) = called 0 s c refl (no_step s) p refl refl
-path-ends m (goes_on {budget} {s} {u} {us} {a} {l} p w) = ending-later m budget s u us a l (passes-next m s none u p) (path-ends m w)
+path-ends m (goes_on {budget} {s} {u} {us} {a} {l} p w) = ending-later m budget s u us a l (passes-next m s None u p) (path-ends m w)
 
--- demand 3: "A run halts early only after a send, at the budget, or at one of three limits, exactly as document 01 orders"
+-- a run halts early only after a send, at the budget, or at one of three limits, in the order of the answers before a step
 pub run_ends : (m : Limits) (budget : ℕ) (s : State) → (us : List State) × PathEnds m budget s us (runs m budget s).answer (runs m budget s).letter × (length us ≡ (runs m budget s).made) × (last_state s us ≡ (runs m budget s).state)
 run_ends m budget s = let w = run-traced m budget s in (w.states, path-ends m w.path, w.made, w.last)
 
@@ -247,8 +247,8 @@ run_ends m budget s = let w = run-traced m budget s in (w.states, path-ends m w.
 
 behind-of : (types : List (List ℕ)) (p : ℕ) (s : State) (c : Option Call) (u : Tree) → Of types p s → Of types p (behind_step s c u)
 unfolding behind_step stepped sent
-behind-of types p s none u h = record { same-types = h.same-types; same-program = h.same-program }
-behind-of types p s (some c) u h = record { same-types = h.same-types; same-program = h.same-program }
+behind-of types p s None u h = record { same-types = h.same-types; same-program = h.same-program }
+behind-of types p s (Some c) u h = record { same-types = h.same-types; same-program = h.same-program }
 
 pub step_of : (m : Limits) (types : List (List ℕ)) (p : ℕ) (s u : State) (c : Option Call) → PassesTo m s c u → Of types p s → Of types p u
 step_of m types p s u c q h = rw q.state (behind-of types p s c q.tree h)

@@ -1,10 +1,10 @@
--- Demand 1: a refusal leaves every lent byte as it was, and its number is one of the entry's. Assumes nothing.
+-- A refusal leaves every lent byte as it was, and its number is one of the entry's.
 use Prim.Native.Nat.{ℕ}
 use mathlib.Core.Path.{◌≡◌, refl}
 use mathlib.Core.Bool.{Bool, true, false, cond}
 use mathlib.Core.List.{List, [], ◌∷◌}
 use mathlib.Core.Logic.{inl, inr}
-use mathlib.Core.Option.{Option}
+use Rattle.std.specs.Prelude.{Option}
 use lib.ListN.{length}
 use native.Mathlib.Omega.{arith}
 use Rattle.meaning.specs.Bytes.{Limits}
@@ -13,21 +13,20 @@ use Rattle.meaning.specs.Answers.{refusal_number}
 use Rattle.meaning.specs.Records.{State, sound, state_of}
 use Rattle.meaning.specs.Entries.{leaves, load, RunOut, Ended, runs, run, rejected, ran_out, lent, Replied, reply, replied_out, reply_verdict}
 use Rattle.meaning.specs.declared.Fault.{Fault}
-use Rattle.meaning.specs.declared.Shape.{Shape}
+use Rattle.meaning.specs.Terms.{Shape}
 use Rattle.meaning.specs.declared.Refusal.{Refusal}
 use Rattle.meaning.specs.declared.Refusal.TheVariants.{Length, Size, Mark, Version, Count, TypeRow, Row, Future, Typing, Unsound, Header, NotOpen, ReplyRow, ReplyKind, ReplyTyping, ReplyRoom}
-use Rattle.meaning.specs.declared.Verdict.{Verdict}
-use Rattle.meaning.specs.declared.Verdict.TheVariants.{Accepted, Refused}
-use Rattle.meaning.specs.declared.Run.{Run}
-use Rattle.meaning.specs.declared.Run.TheVariants.{Ran, Rejected}
+use Rattle.meaning.specs.Answers.{Verdict}
+use Rattle.std.specs.Prelude.{Ok, Err}
+use Rattle.meaning.specs.Answers.{Run}
 use Rattle.meaning.proofs.Entries.InOrder.{Line, First, fact_line, find_line, shape_line, load_lines, reply_lines, load-in-order, reply-in-order}
 
-leaves-old : (v : Verdict) (r : Refusal) (new old : List ℕ) → v ≡ Refused r → leaves v new old ≡ old
+leaves-old : (v : Verdict) (r : Refusal) (new old : List ℕ) → v ≡ Err r → leaves v new old ≡ old
 unfolding leaves
 leaves-old v r new old e = rw e refl
 
 -- "Refusals .. change no byte", of each entry and for every input
-pub load-refused : (m : Limits) (file kept : List ℕ) (r : Refusal) → (load m file kept).verdict ≡ Refused r → (load m file kept).record' ≡ kept
+pub load-refused : (m : Limits) (file kept : List ℕ) (r : Refusal) → (load m file kept).verdict ≡ Err r → (load m file kept).record' ≡ kept
 unfolding load
 load-refused m file kept r e = leaves-old _ r _ kept e
 
@@ -35,19 +34,19 @@ pub record Untouched (o : RunOut) (kept work : List ℕ) : Type 0 where
   pub record_same : o.record' ≡ kept
   pub work-same : o.work' ≡ work
 
-ran-rejects : (m : Limits) (e : Ended) (r : Refusal) → (ran_out m e).answer ≡ Rejected r → ◌≡◌ {A = ℕ} 0 1
+ran-rejects : (m : Limits) (e : Ended) (r : Refusal) → (ran_out m e).answer ≡ Err r → ◌≡◌ {A = ℕ} 0 1
 unfolding ran_out
 ran-rejects m e r q = cc
 
 run-untouched : (m : Limits) (e : Ended) (kept work : List ℕ) (r : Refusal) (a b : Bool)
-    → (cond a (cond b (ran_out m e) (rejected Unsound kept work)) (rejected Length kept work)).answer ≡ Rejected r
+    → (cond a (cond b (ran_out m e) (rejected Unsound kept work)) (rejected Length kept work)).answer ≡ Err r
     → Untouched (cond a (cond b (ran_out m e) (rejected Unsound kept work)) (rejected Length kept work)) kept work
 unfolding rejected
 run-untouched m e kept work r true true q = absurd (omega (arith, ran-rejects m e r q))
 run-untouched m e kept work r true false q = record { record_same = refl; work-same = refl }
 run-untouched m e kept work r false b q = record { record_same = refl; work-same = refl }
 
-pub run-refused : (m : Limits) (kept work : List ℕ) (budget : ℕ) (r : Refusal) → (run m kept work budget).answer ≡ Rejected r → Untouched (run m kept work budget) kept work
+pub run-refused : (m : Limits) (kept work : List ℕ) (budget : ℕ) (r : Refusal) → (run m kept work budget).answer ≡ Err r → Untouched (run m kept work budget) kept work
 unfolding run
 run-refused m kept work budget r q = run-untouched m (runs m budget (state_of m kept)) kept work r (lent m kept work) (sound m kept) q
 
@@ -55,32 +54,32 @@ pub record Unchanged (o : Replied) (kept work : List ℕ) : Type 0 where
   pub record_same : o.record' ≡ kept
   pub work-same : o.work' ≡ work
 
-replied-unchanged : (m : Limits) (s : State) (answer kept work : List ℕ) (v : Verdict) (r : Refusal) → (replied_out m s answer kept work v).verdict ≡ Refused r → Unchanged (replied_out m s answer kept work v) kept work
+replied-unchanged : (m : Limits) (s : State) (answer kept work : List ℕ) (v : Verdict) (r : Refusal) → (replied_out m s answer kept work v).verdict ≡ Err r → Unchanged (replied_out m s answer kept work v) kept work
 unfolding replied_out
 replied-unchanged m s answer kept work v r q = record { record_same = leaves-old v r _ kept q; work-same = leaves-old v r _ work q }
 
 reply-untouched : (m : Limits) (s : State) (answer kept work : List ℕ) (v : Verdict) (r : Refusal) (a b : Bool)
-    → (cond a (cond b (replied_out m s answer kept work v) (replied_out m s answer kept work (Refused Unsound))) (replied_out m s answer kept work (Refused Length))).verdict ≡ Refused r
-    → Unchanged (cond a (cond b (replied_out m s answer kept work v) (replied_out m s answer kept work (Refused Unsound))) (replied_out m s answer kept work (Refused Length))) kept work
+    → (cond a (cond b (replied_out m s answer kept work v) (replied_out m s answer kept work (Err Unsound))) (replied_out m s answer kept work (Err Length))).verdict ≡ Err r
+    → Unchanged (cond a (cond b (replied_out m s answer kept work v) (replied_out m s answer kept work (Err Unsound))) (replied_out m s answer kept work (Err Length))) kept work
 reply-untouched m s answer kept work v r true true q = replied-unchanged m s answer kept work v r q
-reply-untouched m s answer kept work v r true false q = replied-unchanged m s answer kept work (Refused Unsound) r q
-reply-untouched m s answer kept work v r false b q = replied-unchanged m s answer kept work (Refused Length) r q
+reply-untouched m s answer kept work v r true false q = replied-unchanged m s answer kept work (Err Unsound) r q
+reply-untouched m s answer kept work v r false b q = replied-unchanged m s answer kept work (Err Length) r q
 
-pub reply-refused : (m : Limits) (kept work answer : List ℕ) (r : Refusal) → (reply m kept work answer).verdict ≡ Refused r → Unchanged (reply m kept work answer) kept work
+pub reply-refused : (m : Limits) (kept work answer : List ℕ) (r : Refusal) → (reply m kept work answer).verdict ≡ Err r → Unchanged (reply m kept work answer) kept work
 unfolding reply
 reply-refused m kept work answer r q = reply-untouched m (state_of m kept) answer kept work (reply_verdict m (state_of m kept) answer) r (lent m kept work) (sound m kept) q
 
 -- Which refusals an entry gives ----------------------------------------------------------------------------------
 
 unfoldable pub Among : List ℕ → Verdict → Type 0
-Among ns Accepted = Unit {0}
-Among ns (Refused r) = member (refusal_number r) ns ≡ true
+Among ns (Ok tt) = Unit {0}
+Among ns (Err r) = member (refusal_number r) ns ≡ true
 
-pub among-refused : (ns : List ℕ) (r : Refusal) → member (refusal_number r) ns ≡ true → Among ns (Refused r)
+pub among-refused : (ns : List ℕ) (r : Refusal) → member (refusal_number r) ns ≡ true → Among ns (Err r)
 unfolding Among
 among-refused ns r e = e
 
-pub among-accepted : (ns : List ℕ) → Among ns Accepted
+pub among-accepted : (ns : List ℕ) → Among ns (Ok tt)
 unfolding Among
 among-accepted ns = tt
 
@@ -173,8 +172,8 @@ reply-among m kept work answer =
     (reply-in-order m kept work answer)
 
 unfoldable pub RunAmong : Run → Type 0
-RunAmong (Ran a n) = Unit {0}
-RunAmong (Rejected r) = member (refusal_number r) (1 ∷ 10 ∷ []) ≡ true
+RunAmong (Ok r) = Unit {0}
+RunAmong (Err r) = member (refusal_number r) (1 ∷ 10 ∷ []) ≡ true
 
 -- run: 1 or 10
 pub run-among : (m : Limits) (kept work : List ℕ) (budget : ℕ) → RunAmong (run m kept work budget).answer

@@ -3,7 +3,7 @@ use Prim.Native.Nat.{ℕ, ◌<◌}
 use mathlib.Core.Path.{◌≡◌, refl, ap, sym, ◌∙◌}
 use mathlib.Core.Bool.{Bool, true, false, cond, not}
 use mathlib.Core.List.{List, [], ◌∷◌, ◌++◌}
-use mathlib.Core.Option.{Option, none, some}
+use Rattle.std.specs.Prelude.{Option, None, Some}
 use native.Mathlib.Omega.{arith}
 use borrow.Author.Tests.{eqb-true, ne_eqb}
 use lib.Dec.{eqb}
@@ -16,8 +16,8 @@ use Rattle.meaning.specs.Records.{State, Entry, record_of, sound, listed}
 use Rattle.meaning.specs.Entries.{load, stepped, sent, reply_number, without, replied_state, reply_verdict, replied_out, reply, Move, running, replying, after_move}
 use Rattle.meaning.specs.declared.Refusal.{Refusal}
 use Rattle.meaning.specs.declared.Refusal.TheVariants.{Length}
-use Rattle.meaning.specs.declared.Verdict.{Verdict}
-use Rattle.meaning.specs.declared.Verdict.TheVariants.{Accepted, Refused}
+use Rattle.meaning.specs.Answers.{Verdict}
+use Rattle.std.specs.Prelude.{Ok, Err}
 use Rattle.meaning.proofs.Trees.Tests.{both, none-some}
 use Rattle.meaning.proofs.Bytes.Layouts.{AllBytes}
 use Rattle.meaning.proofs.Bytes.Records.{Good}
@@ -31,8 +31,8 @@ use Rattle.meaning.proofs.Entries.Histories.{taken, behind_move, Holds, move-hol
 
 -- the numbers of the replies that a history takes, in order
 unfoldable pub settled_in : Verdict → ℕ → List ℕ
-settled_in Accepted k = k ∷ []
-settled_in (Refused r) k = []
+settled_in (Ok tt) k = k ∷ []
+settled_in (Err r) k = []
 
 unfoldable pub settled_by : Limits → List ℕ → Move → List ℕ
 settled_by m b (running budget work) = []
@@ -46,23 +46,23 @@ settled_numbers m b (v ∷ vs) = settled_by m b v ++ settled_numbers m (after_mo
 
 pub record Shut (k : ℕ) (s : State) : Type 0 where
   pub given : k < s.next
-  pub unlisted : listed s.calls k ≡ none
+  pub unlisted : listed s.calls k ≡ None
 
-none-with : (es : List Entry) (e : Entry) (k : ℕ) → (e.number ≡ k → ⊥) → listed es k ≡ none → listed (es ++ (e ∷ [])) k ≡ none
+none-with : (es : List Entry) (e : Entry) (k : ℕ) → (e.number ≡ k → ⊥) → listed es k ≡ None → listed (es ++ (e ∷ [])) k ≡ None
 unfolding listed
 none-with [] e k n q = rw (ne_eqb e.number k n) refl
 none-with (x ∷ es) e k n q = go (eqb x.number k) q (none-with es e k n)
   where
-    go : (b : Bool) → cond b (some x.type) (listed es k) ≡ none → (listed es k ≡ none → listed (es ++ (e ∷ [])) k ≡ none) → cond b (some x.type) (listed (es ++ (e ∷ [])) k) ≡ none
+    go : (b : Bool) → cond b (Some x.type) (listed es k) ≡ None → (listed es k ≡ None → listed (es ++ (e ∷ [])) k ≡ None) → cond b (Some x.type) (listed (es ++ (e ∷ [])) k) ≡ None
     go true q h = absurd (none-some x.type (sym q))
     go false q h = h q
 
-none-without : (j k : ℕ) (es : List Entry) → listed es k ≡ none → listed (without j es) k ≡ none
+none-without : (j k : ℕ) (es : List Entry) → listed es k ≡ None → listed (without j es) k ≡ None
 unfolding listed without
 none-without j k [] q = refl
 none-without j k (x ∷ es) q = go (eqb x.number j) (eqb x.number k) refl q (none-without j k es)
   where
-    go : (a b : Bool) → eqb x.number k ≡ b → cond b (some x.type) (listed es k) ≡ none → (listed es k ≡ none → listed (without j es) k ≡ none) → listed (cond a es (x ∷ without j es)) k ≡ none
+    go : (a b : Bool) → eqb x.number k ≡ b → cond b (Some x.type) (listed es k) ≡ None → (listed es k ≡ None → listed (without j es) k ≡ None) → listed (cond a es (x ∷ without j es)) k ≡ None
     go a true e q h = absurd (none-some x.type (sym q))
     go true false e q h = q
     go false false e q h = rw e (h q)
@@ -70,8 +70,8 @@ none-without j k (x ∷ es) q = go (eqb x.number j) (eqb x.number k) refl q (non
 -- stays so: numbers are given rising
 behind-shut : (k : ℕ) (s : State) (c : Option Call) (u : Tree) → Shut k s → Shut k (behind_step s c u)
 unfolding behind_step stepped sent
-behind-shut k s none u h = record { given = h.given; unlisted = h.unlisted }
-behind-shut k s (some c) u h =
+behind-shut k s None u h = record { given = h.given; unlisted = h.unlisted }
+behind-shut k s (Some c) u h =
     record { given = omega (arith, h.given); unlisted = none-with s.calls (record { number = s.next; type = c.result }) k (λ e. omega (arith, h.given)) h.unlisted }
 
 step-shut : (m : Limits) (k : ℕ) (s u : State) (c : Option Call) → PassesTo m s c u → Shut k s → Shut k u
@@ -79,8 +79,8 @@ step-shut m k s u c p h = rw p.state (behind-shut k s c p.tree h)
 
 taken-shut : (k : ℕ) (v : Verdict) (s : State) (answer : List ℕ) → Shut k s → Shut k (taken v (replied_state s answer) s)
 unfolding taken replied_state
-taken-shut k Accepted s answer h = record { given = h.given; unlisted = none-without (reply_number answer) k s.calls h.unlisted }
-taken-shut k (Refused r) s answer h = h
+taken-shut k (Ok tt) s answer h = record { given = h.given; unlisted = none-without (reply_number answer) k s.calls h.unlisted }
+taken-shut k (Err r) s answer h = h
 
 cond-shut : (k : ℕ) (t : Bool) (new old : State) → Shut k new → Shut k old → Shut k (cond t new old)
 cond-shut k true new old h g = h
@@ -96,14 +96,14 @@ move-shut m k s h (replying answer work) = cond-shut k (eqb (length work) m.work
 -- what a reply's verdict tells: it was open, and is shut behind it
 pub data Settling (m : Limits) (s : State) (v : Move) (ks : List ℕ) : Type 0 where
   settles-none : ks ≡ [] → Settling m s v ks
-  settles-one : (k t : ℕ) → ks ≡ k ∷ [] → listed s.calls k ≡ some t → Shut k (behind_move m s v) → Settling m s v ks
+  settles-one : (k t : ℕ) → ks ≡ k ∷ [] → listed s.calls k ≡ Some t → Shut k (behind_move m s v) → Settling m s v ks
 
 replied-verdict : (m : Limits) (s : State) (answer kept work : List ℕ) (v : Verdict) → (replied_out m s answer kept work v).verdict ≡ v
 unfolding replied_out
 replied-verdict m s answer kept work v = refl
 
-accepted-shut : (m : Limits) (s : State) (answer : List ℕ) → Good m s → reply_verdict m s answer ≡ Accepted
-    → (t : ℕ) × (listed s.calls (reply_number answer) ≡ some t) × Shut (reply_number answer) (replied_state s answer)
+accepted-shut : (m : Limits) (s : State) (answer : List ℕ) → Good m s → reply_verdict m s answer ≡ Ok tt
+    → (t : ℕ) × (listed s.calls (reply_number answer) ≡ Some t) × Shut (reply_number answer) (replied_state s answer)
 unfolding replied_state
 accepted-shut m s answer g e =
     let a = (accepted-reply m s answer e).1 in
@@ -112,10 +112,10 @@ accepted-shut m s answer g e =
 verdict-settles : (m : Limits) (s : State) (answer work : List ℕ) (v : Verdict) → Good m s → reply_verdict m s answer ≡ v → eqb (length work) m.work_bytes ≡ true
     → Settling m s (replying answer work) (settled_in v (reply_number answer))
 unfolding settled_in behind_move taken
-verdict-settles m s answer work Accepted g q e = let (t, l, h) = accepted-shut m s answer g q in settles-one (reply_number answer) t refl l (rw (e, q) h)
-verdict-settles m s answer work (Refused r) g q e = settles-none refl
+verdict-settles m s answer work (Ok tt) g q e = let (t, l, h) = accepted-shut m s answer g q in settles-one (reply_number answer) t refl l (rw (e, q) h)
+verdict-settles m s answer work (Err r) g q e = settles-none refl
 
-refused-settles : (m : Limits) (s : State) (v : Move) (r : Refusal) (k : ℕ) → Settling m s v (settled_in (Refused r) k)
+refused-settles : (m : Limits) (s : State) (v : Move) (r : Refusal) (k : ℕ) → Settling m s v (settled_in (Err r) k)
 unfolding settled_in
 refused-settles m s v r k = settles-none refl
 
@@ -129,7 +129,7 @@ move-settles m b s g (replying answer work) = go (eqb (length work) m.work_bytes
         rw (reply-good m b.small s g work answer (eqb-true _ _ e), replied-verdict m s answer (record_of m s) work (reply_verdict m s answer))
         (verdict-settles m s answer work (reply_verdict m s answer) g refl e)
     go false e =
-        rw (reply-short m b.small s g work answer e, replied-verdict m s answer (record_of m s) work (Refused Length)) (refused-settles m s (replying answer work) Length (reply_number answer))
+        rw (reply-short m b.small s g work answer e, replied-verdict m s answer (record_of m s) work (Err Length)) (refused-settles m s (replying answer work) Length (reply_number answer))
 
 -- Histories --------------------------------------------------------------------------------------------------------
 
@@ -160,7 +160,7 @@ holds-settle-once m w types p b (v ∷ vs) h =
     (λ k d. shut-stays m w types p k (after_move m b v) vs after d) (holds-settle-once m w types p (after_move m b v) vs after)
 
 -- "no reply serves two": from an accepted load, whatever runs and replies follow
-pub settled-once : (m : Limits) (k : Board m) (file kept : List ℕ) (bytes : AllBytes file) (accepted : (load m file kept).verdict ≡ Accepted) (vs : List Move)
+pub settled-once : (m : Limits) (k : Board m) (file kept : List ℕ) (bytes : AllBytes file) (accepted : (load m file kept).verdict ≡ Ok tt) (vs : List Move)
     → distinct (settled_numbers m (load m file kept).record' vs) ≡ true
 settled-once m k file kept bytes accepted vs = holds-settle-once m k _ _ _ vs (load-holds m k file kept bytes accepted)
 

@@ -4,7 +4,7 @@ use Prim.Native.Nat.{ℕ, zero, suc, ◌≤◌, ◌<◌}
 use mathlib.Core.Path.{◌≡◌, refl, ap, sym}
 use mathlib.Core.Bool.{Bool, true, false, cond}
 use mathlib.Core.List.{List, [], ◌∷◌, ◌++◌}
-use mathlib.Core.Option.{Option, none, some}
+use Rattle.std.specs.Prelude.{Option, None, Some}
 use native.Mathlib.Omega.{arith}
 use lib.Dec.{eqb}
 use lib.ListN.{get_or}
@@ -24,47 +24,47 @@ use Rattle.meaning.proofs.Steps.FreeOrder.{Follows, FollowsIn, root, inside, thi
 use Rattle.meaning.proofs.Steps.RowsStand.{Changed, step-changes}
 use Rattle.meaning.proofs.Steps.Sends.{root-sends}
 
-unveiled : (o : Option ℕ) (p : Option Tree) (v : Tree) → veil o p ≡ some v → p ≡ some v
+unveiled : (o : Option ℕ) (p : Option Tree) (v : Tree) → veil o p ≡ Some v → p ≡ Some v
 unfolding veil
-unveiled none p v e = e
-unveiled (some t) p v e = cc
+unveiled None p v e = e
+unveiled (Some t) p v e = cc
 
 module _ (P : Fact) where
   -- a fact of each row of all that is put
   abbrev pub EverySub : Sub → Type 0
-  EverySub σ = (x : ℕ) (v : Tree) → σ x ≡ some v → Every P v
+  EverySub σ = (x : ℕ) (v : Tree) → σ x ≡ Some v → Every P v
 
   -- what a send has to bring: the fact of its own future, at the type that the call names
   unfoldable pub New : ℕ → Option Call → Type 0
-  New k none = Unit {0}
-  New k (some c) = P (future k) c.result
+  New k None = Unit {0}
+  New k (Some c) = P (future k) c.result
 
   unfoldable EveryOut : ℕ → Out → Type 0
   EveryOut k stay = Unit {0}
   EveryOut k (go c t) = New k c → Every P t
 
-  pub new-of : (k : ℕ) (c : Option Call) → ((d : Call) → c ≡ some d → P (future k) d.result) → New k c
+  pub new-of : (k : ℕ) (c : Option Call) → ((d : Call) → c ≡ Some d → P (future k) d.result) → New k c
   unfolding New
-  new-of k none w = tt
-  new-of k (some d) w = w d refl
+  new-of k None w = tt
+  new-of k (Some d) w = w d refl
 
   cond-every : (k : ℕ) (b : Bool) (o p : Out) → EveryOut k o → EveryOut k p → EveryOut k (cond b o p)
   cond-every k true o p h q = h
   cond-every k false o p h q = q
 
-  swap-every : (o : Option Tree) (t : Tree) → ((v : Tree) → o ≡ some v → Every P v) → Every P t → Every P (swap o t)
+  swap-every : (o : Option Tree) (t : Tree) → ((v : Tree) → o ≡ Some v → Every P v) → Every P t → Every P (swap o t)
   unfolding swap
-  swap-every none t w k = k
-  swap-every (some v) t w k = w v refl
+  swap-every None t w k = k
+  swap-every (Some v) t w k = w v refl
 
-  nth-every : {n : ℕ} (i : ℕ) (f : Forest n) → Everys P f → (v : Tree) → nth i f ≡ some v → Every P v
+  nth-every : {n : ℕ} (i : ℕ) (f : Forest n) → Everys P f → (v : Tree) → nth i f ≡ Some v → Every P v
   unfolding nth Every
   nth-every i end d v e = absurd (none-some v e)
   nth-every zero (more t f) d v e = absurd (none-some v e)
   nth-every (suc zero) (more t f) (c, d) v e = let q : t ≡ v = cc in rw (← q) c
   nth-every (suc (suc i)) (more t f) (c, d) v e = nth-every (suc i) f d v e
 
-  child-every : (i : ℕ) (t : Tree) → Every P t → (v : Tree) → child i t ≡ some v → Every P v
+  child-every : (i : ℕ) (t : Tree) → Every P t → (v : Tree) → child i t ≡ Some v → Every P v
   unfolding child Every
   child-every i (node h u f) (p, d) = nth-every i f d
 
@@ -81,10 +81,10 @@ module _ (P : Fact) where
       chosen true = kid-every i t c
       chosen false = c
 
-  become-every : (k : ℕ) (o : Option Tree) → ((v : Tree) → o ≡ some v → Every P v) → EveryOut k (become o)
+  become-every : (k : ℕ) (o : Option Tree) → ((v : Tree) → o ≡ Some v → Every P v) → EveryOut k (become o)
   unfolding become EveryOut
-  become-every k none w = tt
-  become-every k (some v) w = λ _. w v refl
+  become-every k None w = tt
+  become-every k (Some v) w = λ _. w v refl
 
   assign-every : {n : ℕ} (ps : List Param) (f : Forest n) → Everys P f → EverySub (assign ps f)
   unfolding assign Every
@@ -92,7 +92,7 @@ module _ (P : Fact) where
   assign-every (p ∷ ps) end d x v e = absurd (none-some v e)
   assign-every (p ∷ ps) (more t f) (c, d) x v e = by_name (eqb x p.name) (assign-every ps f d x v) e
     where
-      by_name : (b : Bool) → (assign ps f x ≡ some v → Every P v) → cond b (some t) (assign ps f x) ≡ some v → Every P v
+      by_name : (b : Bool) → (assign ps f x ≡ Some v → Every P v) → cond b (Some t) (assign ps f x) ≡ Some v → Every P v
       by_name true ih e = let q : t ≡ v = cc in rw (← q) c
       by_name false ih e = ih e
 
@@ -209,7 +209,7 @@ module _ (P : Fact) where
 -- Futures listed ---------------------------------------------------------------------------------------------------
 
 -- in a list in which the sent call, if any, stands already
-pub listed-step : (form : ℕ → Form) (Φ : ℕ → Option ℕ) (k : ℕ) (t : Tree) (c : Option Call) (u : Tree) → ((d : Call) → c ≡ some d → Φ k ≡ some d.result) → Listed Φ t → step form k t ≡ go c u → Listed Φ u
+pub listed-step : (form : ℕ → Form) (Φ : ℕ → Option ℕ) (k : ℕ) (t : Tree) (c : Option Call) (u : Tree) → ((d : Call) → c ≡ Some d → Φ k ≡ Some d.result) → Listed Φ t → step form k t ≡ go c u → Listed Φ u
 listed-step form Φ k t c u w d e =
     step-every (Due Φ) form k t c u
     (record {
@@ -233,7 +233,7 @@ legal-if : (count : ℕ) (h : Head) (u : ℕ) → legal count h u → (within 1 
 unfolding row_fault raw fits
 legal-if count h u e = let (a, b, c) = all-passed _ _ _ e in (a, b, ltb-true u count c)
   where
-    all-passed : (a b c : Bool) → cond a (cond b (cond c none (some Number)) (some Field)) (some Kind) ≡ none → (a ≡ true) × (b ≡ true) × (c ≡ true)
+    all-passed : (a b c : Bool) → cond a (cond b (cond c None (Some Number)) (Some Field)) (Some Kind) ≡ None → (a ≡ true) × (b ≡ true) × (c ≡ true)
     all-passed true true true e = (refl, refl, refl)
     all-passed true true false e = absurd (none-some Number (sym e))
     all-passed true false c e = absurd (none-some Field (sym e))
@@ -283,15 +283,15 @@ module _ (form : ℕ → Form) (count : ℕ) where
       }
 
   -- the type of a sent call is one of the table
-  pub sent-legal : (k : ℕ) (t : Tree) (c : Call) (u : Tree) → Every (legal count) t → step form k t ≡ go (some c) u → c.result < count
+  pub sent-legal : (k : ℕ) (t : Tree) (c : Call) (u : Tree) → Every (legal count) t → step form k t ≡ go (Some c) u → c.result < count
   unfolding ty_of
   sent-legal k t c u p e =
-      let d = step-changes form k (some c) t u e in
-      let l = legal-if count d.head d.type (changed_row (legal count) form k (some c) t (flat u) d p) in
+      let d = step-changes form k (Some c) t u e in
+      let l = legal-if count d.head d.type (changed_row (legal count) form k (Some c) t (flat u) d p) in
       let q : d.type ≡ c.result = ap ty_of (root-sends form k c d.head d.type d.below d.new d.rule).was in
       omega (arith, l.2)
 
-  pub legal-step : Parts form count → (k : ℕ) (t : Tree) (c : Option Call) (u : Tree) → ((d : Call) → c ≡ some d → (1 ≤ k) × (k ≤ 65535)) → Every (legal count) t → step form k t ≡ go c u → Every (legal count) u
+  pub legal-step : Parts form count → (k : ℕ) (t : Tree) (c : Option Call) (u : Tree) → ((d : Call) → c ≡ Some d → (1 ≤ k) × (k ≤ 65535)) → Every (legal count) t → step form k t ≡ go c u → Every (legal count) u
   legal-step ps k t c u w p e =
       step-every (legal count) form k t c u (legal-makes ps)
       (new-of (legal count) k c (λ d q. future-legal k d.result (w d q).0 (w d q).1 (sent-legal k t d u p (rw q at e)))) p e

@@ -3,7 +3,7 @@ use Prim.Native.Nat.{ℕ, zero, suc}
 use mathlib.Core.Path.{◌≡◌, refl, ap, sym, ◌∙◌}
 use mathlib.Core.Bool.{Bool, true, false, cond}
 use mathlib.Core.List.{List, [], ◌∷◌, cons≢nil}
-use mathlib.Core.Option.{Option, none, some}
+use Rattle.std.specs.Prelude.{Option, None, Some}
 use lib.Dec.{eqb}
 use Rattle.meaning.specs.Bytes.{◌∧ᵇ◌}
 use Rattle.meaning.specs.Types.{Truth, Side, ntv, frn, Param, Form, base, f_list, f_tuple, f_fun, params, types, elem_of, find, empty, pick, ◌⹁◌, place, low, rest}
@@ -19,10 +19,10 @@ use Rattle.meaning.proofs.Steps.FreeOrder.{Follows, FollowsIn, root, inside, thi
 abbrev pub bare : ℕ → List Param
 bare i = []
 
-closed-name : (o : Option ℕ) {ty : ℕ} → pick o none ≡ some ty → o ≡ some ty
+closed-name : (o : Option ℕ) {ty : ℕ} → pick o None ≡ Some ty → o ≡ Some ty
 unfolding pick
-closed-name none e = e
-closed-name (some t) e = e
+closed-name None e = e
+closed-name (Some t) e = e
 
 module _ (form : ℕ → Form) where
   -- What a typed tree of a kind is made of -----------------------------------------------------------------------
@@ -61,13 +61,13 @@ module _ (form : ℕ → Form) where
   cond-keeps u false o p h k = k refl
 
   -- arguments of the types of the names fit
-  assign-fits : {n : ℕ} (ps : List Param) (f : Forest n) → TypedF form empty bare f → list (tys f) ≡ types ps → (x ty : ℕ) (g : Option ℕ) → find ps x ≡ some ty → Fit form (assign ps f x) g ty
+  assign-fits : {n : ℕ} (ps : List Param) (f : Forest n) → TypedF form empty bare f → list (tys f) ≡ types ps → (x ty : ℕ) (g : Option ℕ) → find ps x ≡ Some ty → Fit form (assign ps f x) g ty
   unfolding Fit assign find types tys list Typed ◌⹁◌ pick
   assign-fits [] f k e x ty g q = absurd (none-some ty q)
   assign-fits (p ∷ ps) end k e x ty g q = cc
   assign-fits (p ∷ ps) (more t f) (a, k) e x ty g q = by_name (eqb x p.name) (assign-fits ps f k (cc) x ty g) q
     where
-      by_name : (b : Bool) → (find ps x ≡ some ty → Fit form (assign ps f x) g ty) → cond b (some p.type) (find ps x) ≡ some ty → Fit form (cond b (some t) (assign ps f x)) g ty
+      by_name : (b : Bool) → (find ps x ≡ Some ty → Fit form (assign ps f x) g ty) → cond b (Some p.type) (find ps x) ≡ Some ty → Fit form (cond b (Some t) (assign ps f x)) g ty
       by_name true ih q = (a, cc)
       by_name false ih q = ih q
 
@@ -79,21 +79,21 @@ module _ (form : ℕ → Form) where
   unfolding isnil_step Keeps Typed Rule lit_base below_ok code tys ty_of
   isnil-keeps u c e = cond-keeps u (is 12 c) _ _ (λ _. ((e, refl, tt), refl)) (λ _. cond-keeps u (is 13 c) _ _ (λ _. ((e, refl, tt), refl)) (λ _. tt))
 
-  nth-keeps : {n : ℕ} (u i : ℕ) (f : Forest n) → TypedF form empty bare f → place i (list (tys f)) ≡ some u → Keeps u (become (nth i f))
+  nth-keeps : {n : ℕ} (u i : ℕ) (f : Forest n) → TypedF form empty bare f → place i (list (tys f)) ≡ Some u → Keeps u (become (nth i f))
   unfolding become nth Keeps Typed place list tys ◌⹁◌ pick find
   nth-keeps u i end k e = tt
   nth-keeps u zero (more t f) k e = tt
   nth-keeps u (suc zero) (more t f) (a, k) e = (a, cc)
   nth-keeps u (suc (suc i)) (more t f) (a, k) e = nth-keeps u (suc i) f k e
 
-  project-keeps : (u i : ℕ) (c : Tree) (ts : List ℕ) → Typed form empty c → form (ty_of c) ≡ f_tuple ts → place i ts ≡ some u → Keeps u (project_step i c)
+  project-keeps : (u i : ℕ) (c : Tree) (ts : List ℕ) → Typed form empty c → form (ty_of c) ≡ f_tuple ts → place i ts ≡ Some u → Keeps u (project_step i c)
   unfolding project_step Keeps
   project-keeps u i c ts k e q = cond-keeps u (is 16 c) _ _ (λ g. below g) (λ _. tt)
     where
       below : is 16 c ≡ true → Keeps u (become (child i c))
       below g = let (n, f, s, r, d) = tuple-parts c g k in let l : ts ≡ list (tys f) = cc in rw (s i) (nth-keeps u i f d (rw (← l) q))
 
-  lproject-keeps : (u i : ℕ) (c : Tree) (el : ℕ) (ts : List ℕ) (r : ℕ) → Typed form empty c → form (ty_of c) ≡ f_list el → form el ≡ f_tuple ts → place i ts ≡ some r → form u ≡ f_list r → Keeps u (lproject_step form i u c)
+  lproject-keeps : (u i : ℕ) (c : Tree) (el : ℕ) (ts : List ℕ) (r : ℕ) → Typed form empty c → form (ty_of c) ≡ f_list el → form el ≡ f_tuple ts → place i ts ≡ Some r → form u ≡ f_list r → Keeps u (lproject_step form i u c)
   unfolding lproject_step Keeps Typed Rule scope ty_of tys below_ok code ◌⹁◌ pick find elem_of
   lproject-keeps u i c el ts r k e₁ e₂ e₃ e₄ =
       cond-keeps u (is 12 c) _ _ (λ _. (((r, e₄), refl, tt), refl))
@@ -105,13 +105,13 @@ module _ (form : ℕ → Form) where
       (λ _. tt))
 
   applied : {n : ℕ} (u : ℕ) (c : Tree) (args : Forest n) (s : Side) (ps : List Param) → is 6 c ≡ true → Typed form empty c → form (ty_of c) ≡ f_fun s ps u → list (tys args) ≡ types ps → TypedF form empty bare args
-      → Keeps u (go none (put form (assign (params (form (ty_of c))) args) (kid 1 c)))
+      → Keeps u (go None (put form (assign (params (form (ty_of c))) args) (kid 1 c)))
   unfolding Keeps empty ◌⹁◌ params
   applied u c args s ps g kc e q ka =
       let ((ps', r), kb) = lambda-parts c g kc in
       let d : ps ≡ params (form (ty_of c)) = sym (ap params e) in
       let (k, t) = put_typed form (assign (params (form (ty_of c))) args) (empty ⹁ params (form (ty_of c))) empty (kid 1 c)
-      (λ x w h. assign-fits (params (form (ty_of c))) args ka (q ∙ ap types d) x w none (closed-name (find (params (form (ty_of c))) x) h)) kb in
+      (λ x w h. assign-fits (params (form (ty_of c))) args ka (q ∙ ap types d) x w None (closed-name (find (params (form (ty_of c))) x) h)) kb in
       let l : ty_of (kid 1 c) ≡ u = cc in
       (k, t ∙ l)
 
@@ -119,7 +119,7 @@ module _ (form : ℕ → Form) where
   unfolding let_step Keeps Typed tys list types empty ◌⹁◌ pick find
   let-keeps u x a b ka kb e =
       let ps : List Param = record { name = x; type = ty_of a } ∷ [] in
-      let (k, t) = put_typed form (assign ps (more a end)) (empty ⹁ ps) empty b (λ y w g. assign-fits ps (more a end) (ka, tt) refl y w none (closed-name (find ps y) g)) kb in
+      let (k, t) = put_typed form (assign ps (more a end)) (empty ⹁ ps) empty b (λ y w g. assign-fits ps (more a end) (ka, tt) refl y w None (closed-name (find ps y) g)) kb in
       (k, t ∙ e)
 
   -- the fix term for the first name, the others as they are
@@ -127,7 +127,7 @@ module _ (form : ℕ → Form) where
   unfolding Fit assign find ◌⹁◌ pick
   tie-fits p ps t k e x ty g = by_name (eqb x p.name) g
     where
-      by_name : (b : Bool) → pick (cond b (some p.type) (find ps x)) (empty x) ≡ some ty → Fit form (cond b (some t) none) (pick (find ps x) (empty x)) ty
+      by_name : (b : Bool) → pick (cond b (Some p.type) (find ps x)) (empty x) ≡ Some ty → Fit form (cond b (Some t) None) (pick (find ps x) (empty x)) ty
       by_name true g = (k, cc)
       by_name false g = g
 

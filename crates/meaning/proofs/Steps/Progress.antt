@@ -3,7 +3,7 @@ use Prim.Native.Nat.{ℕ, zero, suc}
 use mathlib.Core.Path.{◌≡◌, refl, ap, sym, ◌∙◌}
 use mathlib.Core.Bool.{Bool, true, false, cond, not, false≢true}
 use mathlib.Core.List.{List, [], ◌∷◌, cons≢nil}
-use mathlib.Core.Option.{Option, none, some}
+use Rattle.std.specs.Prelude.{Option, None, Some}
 use lib.Dec.{eqb}
 use Rattle.meaning.specs.Bytes.{◌∧ᵇ◌}
 use Rattle.meaning.specs.Types.{Str, File, Truth, Side, ntv, frn, Param, Form, absent, base, f_list, f_tuple, f_fun, params, types, find, member, empty, pick, ◌⹁◌, place, low, rest}
@@ -72,30 +72,30 @@ moved_f stays = false
 moved_f (goes c f) = true
 
 unfoldable found : Option Awaited → Bool
-found none = false
-found (some e) = true
+found None = false
+found (Some e) = true
 
 moved-is : (o : Out) → moved o ≡ true → (c : Option Call) × (u : Tree) × (o ≡ go c u)
 unfolding moved
 moved-is stay e = absurd (false≢true e)
 moved-is (go c u) e = (c, u, refl)
 
-found-is : (o : Option Awaited) → found o ≡ true → (e : Awaited) × (o ≡ some e)
+found-is : (o : Option Awaited) → found o ≡ true → (e : Awaited) × (o ≡ Some e)
 unfolding found
-found-is none e = absurd (false≢true e)
-found-is (some x) e = (x, refl)
+found-is None e = absurd (false≢true e)
+found-is (Some x) e = (x, refl)
 
 found-or : (a b : Option Awaited) → found (earlier a b) ≡ (found a ∨ᵇ found b)
 unfolding found earlier ◌∨ᵇ◌
-found-or none b = refl
-found-or (some e) b = refl
+found-or None b = refl
+found-or (Some e) b = refl
 
-found-cond : (b : Bool) (o : Option Awaited) → found (cond b o none) ≡ (b ∧ᵇ found o)
+found-cond : (b : Bool) (o : Option Awaited) → found (cond b o None) ≡ (b ∧ᵇ found o)
 unfolding found ◌∧ᵇ◌
 found-cond true o = refl
 found-cond false o = refl
 
-found_first : (b : Bool) (e : Awaited) (o : Option Awaited) → found (cond b (some e) o) ≡ (b ∨ᵇ found o)
+found_first : (b : Bool) (e : Awaited) (o : Option Awaited) → found (cond b (Some e) o) ≡ (b ∨ᵇ found o)
 unfolding found ◌∨ᵇ◌
 found_first true e o = refl
 found_first false e o = refl
@@ -136,7 +136,7 @@ unvisited true t f = refl
 unvisited false t f = refl
 
 -- one of two tests decides
-two-moved : (p q : Bool) (a b : Tree) → (p ∨ᵇ q) ≡ true → moved (cond p (go none a) (cond q (go none b) stay)) ≡ true
+two-moved : (p q : Bool) (a b : Tree) → (p ∨ᵇ q) ≡ true → moved (cond p (go None a) (cond q (go None b) stay)) ≡ true
 unfolding moved ◌∨ᵇ◌
 two-moved true q a b e = refl
 two-moved false true a b e = refl
@@ -206,14 +206,14 @@ module _ (form : ℕ → Form) where
 
   -- Where every place that the rules look at holds a value, the row reduces --------------------------------------
 
-  nth-moves : {n : ℕ} (i u : ℕ) (f : Forest n) → place i (list (tys f)) ≡ some u → moved (become (nth i f)) ≡ true
+  nth-moves : {n : ℕ} (i u : ℕ) (f : Forest n) → place i (list (tys f)) ≡ Some u → moved (become (nth i f)) ≡ true
   unfolding moved become nth place list tys
   nth-moves i u end e = cc
   nth-moves zero u (more t f) e = cc
   nth-moves (suc zero) u (more t f) e = refl
   nth-moves (suc (suc i)) u (more t f) e = nth-moves (suc i) u f e
 
-  project-moves : (i u : ℕ) (c : Tree) (ts : List ℕ) → Typed form empty c → form (ty_of c) ≡ f_tuple ts → place i ts ≡ some u → is 16 c ≡ true → moved (project_step i c) ≡ true
+  project-moves : (i u : ℕ) (c : Tree) (ts : List ℕ) → Typed form empty c → form (ty_of c) ≡ f_tuple ts → place i ts ≡ Some u → is 16 c ≡ true → moved (project_step i c) ≡ true
   unfolding project_step
   project-moves i u c ts k e q g =
       let (n, f, s, r, d) = tuple-parts form c g k in
@@ -243,7 +243,7 @@ module _ (form : ℕ → Form) where
   unfolding zip_step moved
   zip-moves u m c args e = rw e (by-nil (any_nil m args))
     where
-      by-nil : (b : Bool) → moved (cond b (go none (node nil u end)) (go none (zip_cons form u m c args))) ≡ true
+      by-nil : (b : Bool) → moved (cond b (go None (node nil u end)) (go None (zip_cons form u m c args))) ≡ true
       by-nil true = refl
       by-nil false = refl
 
@@ -264,7 +264,7 @@ module _ (form : ℕ → Form) where
     where
       by_kind : (p q r : Bool) → is 6 c ≡ p → is 7 c ≡ q → is 15 c ≡ r → Typed form empty (node (apply n) u (more c args))
           → values_at (cond p nowhere (cond q (behind everywhere) (cond r (behind (unready (n_of (head_of c)) args)) first))) (more c args) ≡ true
-          → moved (cond p (go none (put form (assign (params (form (ty_of c))) args) (kid 1 c))) (cond q (send_step k u c args) (cond r (zip_step form u (n_of (head_of c)) c args) stay))) ≡ true
+          → moved (cond p (go None (put form (assign (params (form (ty_of c))) args) (kid 1 c))) (cond q (send_step k u c args) (cond r (zip_step form u (n_of (head_of c)) c args) stay))) ≡ true
       by_kind true q r a b d t g = refl
       by_kind false true r a b d t g = send-moves k u c args (all-values args (right _ _ g))
       by_kind false false true a b d t g = zip-moves u (n_of (head_of c)) c args (zip-ready u c args d t (right _ _ g))
@@ -278,7 +278,7 @@ module _ (form : ℕ → Form) where
   unfolding fix_step Typed Rule tys below_ok code first_is params
   fix-moves u c ((x, ps, r, e, _), w, k) = rw w (tie-moves u c (record { name = x; type = u }) ps (params (form (ty_of c))) (ap params e))
 
-  list-moves : (c a b : Tree) → is_list c ≡ true → moved (cond (is 12 c) (go none a) (cond (is 13 c) (go none b) stay)) ≡ true
+  list-moves : (c a b : Tree) → is_list c ≡ true → moved (cond (is 12 c) (go None a) (cond (is 13 c) (go None b) stay)) ≡ true
   unfolding is_list
   list-moves c a b e = two-moved (is 12 c) (is 13 c) a b e
 
@@ -343,12 +343,12 @@ module _ (form : ℕ → Form) where
     goes-on-in k a s end w d = is-done refl
     goes-on-in k a s (more t f) w (p, d) =
         let g = visit-goes (a 0) (value t) (found (awaited t)) _ _ (step form k t) t f _ (λ e. goes_on k t (rw (w 0 e) at p)) (goes-on-in k (λ i. a (suc i)) (λ i. s (suc i)) f (λ i. w (suc i)) d) in
-        rw (found-or (cond (a 0) (awaited t) none) (awaited_in (λ i. a (suc i)) f), found-cond (a 0) (awaited t)) g
+        rw (found-or (cond (a 0) (awaited t) None) (awaited_in (λ i. a (suc i)) f), found-cond (a 0) (awaited t)) g
 
   pub data Progress (k : ℕ) (t : Tree) : Type 0 where
     done : value t ≡ true → Progress k t
     moves : (c : Option Call) (u : Tree) → step form k t ≡ go c u → Progress k t
-    waits : (e : Awaited) → awaited t ≡ some e → Progress k t
+    waits : (e : Awaited) → awaited t ≡ Some e → Progress k t
 
   pub progress : (k : ℕ) (t : Tree) → Typed form empty t → Progress k t
   progress k t d = named (goes_on k t d)
@@ -387,26 +387,26 @@ module _ (form : ℕ → Form) where
 
 -- What is awaited is listed ----------------------------------------------------------------------------------------
 
-by_kind : (Φ : ℕ → Option ℕ) (h : Head) (u : ℕ) (o : Option Awaited) (e : Awaited) → Due Φ h u → (o ≡ some e → Φ e.number ≡ some e.type) → (b : Bool) → eqb (code h) 9 ≡ b
-    → cond b (some (record { number = word_of h; type = u })) o ≡ some e → Φ e.number ≡ some e.type
+by_kind : (Φ : ℕ → Option ℕ) (h : Head) (u : ℕ) (o : Option Awaited) (e : Awaited) → Due Φ h u → (o ≡ Some e → Φ e.number ≡ Some e.type) → (b : Bool) → eqb (code h) 9 ≡ b
+    → cond b (Some (record { number = word_of h; type = u })) o ≡ Some e → Φ e.number ≡ Some e.type
 unfolding head_from
 by_kind Φ h u o e a k true p q = let d : record { number = word_of h; type = u } ≡ e = cc in rw (← d) (a (word_of h) (head-is 9 h p))
 by_kind Φ h u o e a k false p q = k q
 
-first_found : (Φ : ℕ → Option ℕ) (e : Awaited) (b : Bool) (o p : Option Awaited) → (o ≡ some e → Φ e.number ≡ some e.type) → (p ≡ some e → Φ e.number ≡ some e.type)
-    → earlier (cond b o none) p ≡ some e → Φ e.number ≡ some e.type
+first_found : (Φ : ℕ → Option ℕ) (e : Awaited) (b : Bool) (o p : Option Awaited) → (o ≡ Some e → Φ e.number ≡ Some e.type) → (p ≡ Some e → Φ e.number ≡ Some e.type)
+    → earlier (cond b o None) p ≡ Some e → Φ e.number ≡ Some e.type
 unfolding earlier
-first_found Φ e true none p h k q = k q
-first_found Φ e true (some x) p h k q = h q
+first_found Φ e true None p h k q = k q
+first_found Φ e true (Some x) p h k q = h q
 first_found Φ e false o p h k q = k q
 
 mutual
   unfolding awaited Every head_from
 
-  pub awaited-listed : (Φ : ℕ → Option ℕ) (t : Tree) (e : Awaited) → Listed Φ t → awaited t ≡ some e → Φ e.number ≡ some e.type
+  pub awaited-listed : (Φ : ℕ → Option ℕ) (t : Tree) (e : Awaited) → Listed Φ t → awaited t ≡ Some e → Φ e.number ≡ Some e.type
   awaited-listed Φ (node h u f) e (a, d) q = by_kind Φ h u (awaited_in (looks h f) f) e a (λ p. awaited-in-listed Φ (looks h f) f e d p) (eqb (code h) 9) refl q
 
-  awaited-in-listed : {n : ℕ} (Φ : ℕ → Option ℕ) (a : Places) (f : Forest n) (e : Awaited) → Everys (Due Φ) f → awaited_in a f ≡ some e → Φ e.number ≡ some e.type
+  awaited-in-listed : {n : ℕ} (Φ : ℕ → Option ℕ) (a : Places) (f : Forest n) (e : Awaited) → Everys (Due Φ) f → awaited_in a f ≡ Some e → Φ e.number ≡ Some e.type
   awaited-in-listed Φ a end e d q = absurd (none-some e q)
   awaited-in-listed Φ a (more t f) e (c, d) q =
       first_found Φ e (a 0) (awaited t) (awaited_in (λ i. a (suc i)) f) (λ p. awaited-listed Φ t e c p) (λ p. awaited-in-listed Φ (λ i. a (suc i)) f e d p) q

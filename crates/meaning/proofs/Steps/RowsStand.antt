@@ -2,7 +2,7 @@
 use Prim.Native.Nat.{ℕ}
 use mathlib.Core.Path.{◌≡◌, ap, sym, ◌∙◌}
 use mathlib.Core.List.{List, [], ◌∷◌, ◌++◌, append_assoc, append-nil}
-use mathlib.Core.Option.{Option}
+use Rattle.std.specs.Prelude.{Option}
 use Rattle.meaning.specs.Types.{Form}
 use Rattle.meaning.specs.Terms.{Head, arity, Tree, Forest, node, Row, flat, flats}
 use Rattle.meaning.specs.Steps.{Call, go, contract, Places, step}

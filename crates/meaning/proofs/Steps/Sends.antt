@@ -3,7 +3,7 @@ use Prim.Native.Nat.{ℕ, suc, ◌+◌, ◌<◌}
 use mathlib.Core.Path.{◌≡◌, refl, ap, sym, ◌∙◌}
 use mathlib.Core.Bool.{Bool, true, false, cond}
 use mathlib.Core.List.{List, [], ◌∷◌, ◌++◌, append_assoc, append-nil}
-use mathlib.Core.Option.{Option, none, some}
+use Rattle.std.specs.Prelude.{Option, None, Some}
 use native.Mathlib.Omega.{arith}
 use lib.ListN.{length, length-append}
 use Rattle.meaning.specs.Types.{frn, Param, Form, f_fun, types, params, find, empty, pick, ◌⹁◌}
@@ -30,8 +30,8 @@ pub record Sending (k : ℕ) (c : Call) (t u : Tree) : Type 0 where
 
 unfoldable SendingOut : ℕ → Tree → Out → Type 0
 SendingOut k t stay = Unit {0}
-SendingOut k t (go none u) = Unit {0}
-SendingOut k t (go (some c) u) = Sending k c t u
+SendingOut k t (go None u) = Unit {0}
+SendingOut k t (go (Some c) u) = Sending k c t u
 
 cond-sending : (k : ℕ) (t : Tree) (b : Bool) (o p : Out) → (b ≡ true → SendingOut k t o) → SendingOut k t p → SendingOut k t (cond b o p)
 cond-sending k t true o p h q = h refl
@@ -39,8 +39,8 @@ cond-sending k t false o p h q = q
 
 become-quiet : (k : ℕ) (t : Tree) (o : Option Tree) → SendingOut k t (become o)
 unfolding SendingOut become
-become-quiet k t none = tt
-become-quiet k t (some v) = tt
+become-quiet k t None = tt
+become-quiet k t (Some v) = tt
 
 module _ (form : ℕ → Form) where
   tie-quiet : (k : ℕ) (t : Tree) (u : ℕ) (c : Tree) (ps : List Param) → SendingOut k t (tie form u c ps)
@@ -78,7 +78,7 @@ module _ (form : ℕ → Form) where
   contract-sending k (lproject i) u (more c end) = let t = node (lproject i) u (more c end) in cond-sending k t (is 12 c) _ _ (λ _. tt) (cond-sending k t (is 13 c) _ _ (λ _. tt) tt)
   contract-sending k (bind x) u (more a (more b end)) = tt
 
-  pub root-sends : (k : ℕ) (c : Call) (h : Head) (u : ℕ) (f : Forest (arity h)) (v : Tree) → contract form k h u f ≡ go (some c) v → Sending k c (node h u f) v
+  pub root-sends : (k : ℕ) (c : Call) (h : Head) (u : ℕ) (f : Forest (arity h)) (v : Tree) → contract form k h u f ≡ go (Some c) v → Sending k c (node h u f) v
   unfolding SendingOut
   root-sends k c h u f v e = rw e at (contract-sending k h u f)
 
@@ -95,13 +95,13 @@ module _ (form : ℕ → Form) where
     pub stands : rows ≡ before ++ (flat old ++ after)
 
   unfoldable SentFrom : ℕ → Option Call → List Row → Type 0
-  SentFrom k none rows = Unit {0}
-  SentFrom k (some c) rows = Sender k c rows
+  SentFrom k None rows = Unit {0}
+  SentFrom k (Some c) rows = Sender k c rows
 
   from-ahead : (k : ℕ) (c : Option Call) (p rows : List Row) → SentFrom k c rows → SentFrom k c (p ++ rows)
   unfolding SentFrom
-  from-ahead k none p rows d = tt
-  from-ahead k (some c) p rows d =
+  from-ahead k None p rows d = tt
+  from-ahead k (Some c) p rows d =
       record {
         old = d.old;
         new = d.new;
@@ -114,8 +114,8 @@ module _ (form : ℕ → Form) where
 
   from_then : (k : ℕ) (c : Option Call) (rows q : List Row) → SentFrom k c rows → SentFrom k c (rows ++ q)
   unfolding SentFrom
-  from_then k none rows q d = tt
-  from_then k (some c) rows q d =
+  from_then k None rows q d = tt
+  from_then k (Some c) rows q d =
       record {
         old = d.old;
         new = d.new;
@@ -128,8 +128,8 @@ module _ (form : ℕ → Form) where
 
   root-from : (k : ℕ) (c : Option Call) (h : Head) (u : ℕ) (f : Forest (arity h)) (v : Tree) → contract form k h u f ≡ go c v → Typed form empty (node h u f) → SentFrom k c (flat (node h u f))
   unfolding SentFrom
-  root-from k none h u f v e d = tt
-  root-from k (some c) h u f v e d =
+  root-from k None h u f v e d = tt
+  root-from k (Some c) h u f v e d =
       record { old = node h u f; new = v; sending = root-sends k c h u f v e; typed = d; before = []; after = []; stands = sym (append-nil (flat (node h u f))) }
 
   mutual
@@ -144,9 +144,9 @@ module _ (form : ℕ → Form) where
     follows-from-in (this {k} {c} {t} {f} e p) s w (q, d) = from_then k c (flat t) (flats f) (follows-from p (rw (w 0 e) at q))
     follows-from-in (that {k} {c} {t} {f} p) s w (q, d) = from-ahead k c (flat t) (flats f) (follows-from-in p (λ i. s (suc i)) (λ i. w (suc i)) d)
 
-  pub sent-from : (k : ℕ) (t : Tree) (c : Call) (u : Tree) → Typed form empty t → step form k t ≡ go (some c) u → Sender k c (flat t)
+  pub sent-from : (k : ℕ) (t : Tree) (c : Call) (u : Tree) → Typed form empty t → step form k t ≡ go (Some c) u → Sender k c (flat t)
   unfolding SentFrom
-  sent-from k t c u d e = follows-from (step-free form k (some c) t u e) d
+  sent-from k t c u d e = follows-from (step-free form k (Some c) t u e) d
 
   -- What is sent: closed values of the tool's argument types -------------------------------------------------------
 
@@ -168,11 +168,11 @@ module _ (form : ℕ → Form) where
       let (ps', r, q') = foreign-parts form s.function s.tool kc in
       record { count = s.count; args = s.args; rows = s.sent; params = ps; tool_type = ty_of s.function; tool-typed = cc; all-values = s.ready; closed = ka; of_types = l }
 
-  pub sent-arguments : (k : ℕ) (t : Tree) (c : Call) (u : Tree) → Typed form empty t → step form k t ≡ go (some c) u → Arguments c
+  pub sent-arguments : (k : ℕ) (t : Tree) (c : Call) (u : Tree) → Typed form empty t → step form k t ≡ go (Some c) u → Arguments c
   sent-arguments k t c u d e = let s = sent-from k t c u d e in sending-args k c s.old s.new s.sending s.typed
 
   -- the result type of a sent call is that of some foreign function
-  pub sent-type : (k : ℕ) (t : Tree) (c : Call) (u : Tree) → Typed form empty t → step form k t ≡ go (some c) u → (ps : List Param) × (f : ℕ) × (form f ≡ f_fun frn ps c.result)
+  pub sent-type : (k : ℕ) (t : Tree) (c : Call) (u : Tree) → Typed form empty t → step form k t ≡ go (Some c) u → (ps : List Param) × (f : ℕ) × (form f ≡ f_fun frn ps c.result)
   sent-type k t c u d e = let a = sent-arguments k t c u d e in (a.params, a.tool_type, a.tool-typed)
 
   -- The size of a sent call --------------------------------------------------------------------------------------
@@ -185,9 +185,9 @@ module _ (form : ℕ → Form) where
       omega (arith, ap size s.was, ap size s.becomes)
 
   -- an application with its tool and its arguments becomes one row
-  pub send-smaller : (k : ℕ) (t : Tree) (c : Call) (u : Tree) → step form k t ≡ go (some c) u → size u + length c.rows + 1 ≡ size t
+  pub send-smaller : (k : ℕ) (t : Tree) (c : Call) (u : Tree) → step form k t ≡ go (Some c) u → size u + length c.rows + 1 ≡ size t
   send-smaller k t c u e =
-      let d = step-changes form k (some c) t u e in
+      let d = step-changes form k (Some c) t u e in
       let old = node d.head d.type d.below in
       let s = sending-size k c old d.new (root-sends k c d.head d.type d.below d.new d.rule) in
       let p : size t ≡ length d.before + (size old + length d.after) = sym (length-flat t) ∙ ap length d.was ∙ around d.before d.after old in
@@ -198,5 +198,5 @@ module _ (form : ℕ → Form) where
       around a b v = length-append a (flat v ++ b) ∙ ap (λ n. length a + n) (length-append (flat v) b ∙ ap (λ n. n + length b) (length-flat v))
 
   -- so its argument rows are fewer than the tree's
-  pub sent-args : (k : ℕ) (t : Tree) (c : Call) (u : Tree) → step form k t ≡ go (some c) u → length c.rows < size t
+  pub sent-args : (k : ℕ) (t : Tree) (c : Call) (u : Tree) → step form k t ≡ go (Some c) u → length c.rows < size t
   sent-args k t c u e = omega (arith, send-smaller k t c u e)

@@ -2,7 +2,7 @@
 use Prim.Native.Nat.{ℕ}
 use mathlib.Core.Path.{◌≡◌}
 use mathlib.Core.List.{List, [], ◌∷◌, ◌++◌}
-use mathlib.Core.Option.{Option, some}
+use Rattle.std.specs.Prelude.{Option, Some}
 use Rattle.meaning.specs.Terms.{Head, future, Tree, Forest, node, end, more, Row, flat, flats}
 
 abbrev pub Fact : Type 1
@@ -22,7 +22,7 @@ AllRows P (r ∷ l) = P r.head r.type × AllRows P l
 
 -- each future is listed with the type that it states
 abbrev pub Due : (ℕ → Option ℕ) → Fact
-Due Φ h u = (k : ℕ) → h ≡ future k → Φ k ≡ some u
+Due Φ h u = (k : ℕ) → h ≡ future k → Φ k ≡ Some u
 
 abbrev pub Listed : (ℕ → Option ℕ) → Tree → Type 0
 Listed Φ t = Every (Due Φ) t

@@ -4,7 +4,7 @@ use mathlib.Core.Path.{◌≡◌, refl, ap, sym, ◌∙◌}
 use mathlib.Core.Bool.{Bool, true, false, false≢true}
 use mathlib.Core.Logic.{◌↔◌}
 use mathlib.Core.List.{List, [], ◌∷◌, ◌++◌}
-use mathlib.Core.Option.{Option, none, some}
+use Rattle.std.specs.Prelude.{Option, None, Some}
 use native.Mathlib.Omega.{arith}
 use lib.Dec.{eqb}
 use lib.ListN.{length, get_or, length-append}
@@ -45,12 +45,12 @@ unfolding same_params
 params_same [] = refl
 params_same (x ∷ xs) = both _ _ (eq-same x.name) (both _ _ (eq-same x.type) (params_same xs))
 
-pub given_is : (o : Option ℕ) (t : ℕ) → given o t ≡ true → o ≡ some t
+pub given_is : (o : Option ℕ) (t : ℕ) → given o t ≡ true → o ≡ Some t
 unfolding given
-given_is none t p = absurd (false≢true p)
-given_is (some u) t p = ap some (eqb-true u t p)
+given_is None t p = absurd (false≢true p)
+given_is (Some u) t p = ap Some (eqb-true u t p)
 
-pub given-of : (o : Option ℕ) (t : ℕ) → o ≡ some t → given o t ≡ true
+pub given-of : (o : Option ℕ) (t : ℕ) → o ≡ Some t → given o t ≡ true
 unfolding given
 given-of o t e = rw e (eq-same t)
 
@@ -125,35 +125,35 @@ more_of ps k p qs e t = rw e t
 
 -- Findings -------------------------------------------------------------------------------------------------------
 
-stop-none : (b : Bool) (o : Option ℕ) → stop b o ≡ none → (b ≡ true) × (o ≡ none)
+stop-none : (b : Bool) (o : Option ℕ) → stop b o ≡ None → (b ≡ true) × (o ≡ None)
 unfolding stop
 stop-none true o e = (refl, e)
 stop-none false o e = (cc, cc)
 
-before-none : (a b : Option ℕ) → before a b ≡ none → (a ≡ none) × (b ≡ none)
+before-none : (a b : Option ℕ) → before a b ≡ None → (a ≡ None) × (b ≡ None)
 unfolding before
-before-none none b e = (refl, e)
-before-none (some i) b e = (e, cc)
+before-none None b e = (refl, e)
+before-none (Some i) b e = (e, cc)
 
-later-none : (n : ℕ) (o : Option ℕ) → later n o ≡ none → o ≡ none
+later-none : (n : ℕ) (o : Option ℕ) → later n o ≡ None → o ≡ None
 unfolding later
-later-none n none e = refl
-later-none n (some i) e = cc
+later-none n None e = refl
+later-none n (Some i) e = cc
 
 later-zero : (o : Option ℕ) → later 0 o ≡ o
 unfolding later
-later-zero none = refl
-later-zero (some i) = ap some (omega arith)
+later-zero None = refl
+later-zero (Some i) = ap Some (omega arith)
 
 later-before : (n : ℕ) (a b : Option ℕ) → later 1 (before a (later n b)) ≡ before (later 1 a) (later (suc n) b)
 unfolding later before
-later-before n none none = refl
-later-before n none (some i) = ap some (omega arith)
-later-before n (some i) b = refl
+later-before n None None = refl
+later-before n None (Some i) = ap Some (omega arith)
+later-before n (Some i) b = refl
 
 -- the first place that is false
 unfoldable pub first_false : List Bool → Option ℕ
-first_false [] = none
+first_false [] = None
 first_false (b ∷ l) = stop b (later 1 (first_false l))
 
 first-false-append : (a b : List Bool) → first_false (a ++ b) ≡ before (first_false a) (later (length a) (first_false b))
@@ -162,7 +162,7 @@ first-false-append [] b = sym (later-zero (first_false b))
 first-false-append (true ∷ a) b = ap (later 1) (first-false-append a b) ∙ later-before (length a) (first_false a) (first_false b)
 first-false-append (false ∷ a) b = refl
 
-pub first-false-at : (l : List Bool) (i : ℕ) → first_false l ≡ some i → (i < length l) × (get_or l i true ≡ false) × ((j : ℕ) → j < i → get_or l j true ≡ true)
+pub first-false-at : (l : List Bool) (i : ℕ) → first_false l ≡ Some i → (i < length l) × (get_or l i true ≡ false) × ((j : ℕ) → j < i → get_or l j true ≡ true)
 unfolding first_false stop later
 first-false-at [] i e = (absurd (none-some i e), cc, λ j h. cc)
 first-false-at (false ∷ l) i e = let q : i ≡ 0 = cc in (omega arith, rw q refl, λ j h. absurd (omega arith))
@@ -172,10 +172,10 @@ first-false-at (true ∷ l) i e = in-the-rest (first_false l) (first-false-at l)
     earlier j c g zero h = refl
     earlier j c g (suc m) h = c m (omega arith)
 
-    in-the-rest : (o : Option ℕ) → ((j : ℕ) → o ≡ some j → (j < length l) × (get_or l j true ≡ false) × ((m : ℕ) → m < j → get_or l m true ≡ true)) → later 1 o ≡ some i
+    in-the-rest : (o : Option ℕ) → ((j : ℕ) → o ≡ Some j → (j < length l) × (get_or l j true ≡ false) × ((m : ℕ) → m < j → get_or l m true ≡ true)) → later 1 o ≡ Some i
         → (i < length (true ∷ l)) × (get_or (true ∷ l) i true ≡ false) × ((j : ℕ) → j < i → get_or (true ∷ l) j true ≡ true)
-    in-the-rest none ih e = (absurd (none-some i e), cc, λ j h. cc)
-    in-the-rest (some j) ih e =
+    in-the-rest None ih e = (absurd (none-some i e), cc, λ j h. cc)
+    in-the-rest (Some j) ih e =
         let q : 1 + j ≡ i = cc in
         let d : i ≡ suc j = omega arith in
         let (a, b, c) = ih j refl in
@@ -287,12 +287,12 @@ module _ (form : ℕ → Form) where
   mutual
     unfolding first_bad Typed row_ok
 
-    pub typed-if : (Γ : Ctx) (t : Tree) → first_bad form Γ t ≡ none → Typed form Γ t
+    pub typed-if : (Γ : Ctx) (t : Tree) → first_bad form Γ t ≡ None → Typed form Γ t
     typed-if Γ (node h ty f) e =
         let (a, b) = stop-none _ _ e in
         (rule-if Γ h ty (tys f) (left _ _ a), right _ _ a, typeds-if Γ (scope form h ty (tys f)) f (later-none _ _ b))
 
-    pub typeds-if : {n : ℕ} (Γ : Ctx) (s : ℕ → List Param) (f : Forest n) → first_bads form Γ s f ≡ none → TypedF form Γ s f
+    pub typeds-if : {n : ℕ} (Γ : Ctx) (s : ℕ → List Param) (f : Forest n) → first_bads form Γ s f ≡ None → TypedF form Γ s f
     typeds-if Γ s end e = tt
     typeds-if Γ s (more t f) e =
         let (a, b) = before-none _ _ e in
@@ -301,14 +301,14 @@ module _ (form : ℕ → Form) where
   mutual
     unfolding first_bad Typed row_ok stop before later
 
-    pub typed-of : (Γ : Ctx) (t : Tree) → Typed form Γ t → first_bad form Γ t ≡ none
+    pub typed-of : (Γ : Ctx) (t : Tree) → Typed form Γ t → first_bad form Γ t ≡ None
     typed-of Γ (node h ty f) (r, b, k) = rw (both _ _ (rule-of Γ h ty (tys f) r) b, typeds-of Γ (scope form h ty (tys f)) f k)
 
-    pub typeds-of : {n : ℕ} (Γ : Ctx) (s : ℕ → List Param) (f : Forest n) → TypedF form Γ s f → first_bads form Γ s f ≡ none
+    pub typeds-of : {n : ℕ} (Γ : Ctx) (s : ℕ → List Param) (f : Forest n) → TypedF form Γ s f → first_bads form Γ s f ≡ None
     typeds-of Γ s end k = refl
     typeds-of Γ s (more t f) (a, k) = rw (typed-of (Γ ⹁ s 0) t a, typeds-of Γ (λ i. s (suc i)) f k)
 
-  pub checked : (Γ : Ctx) (t : Tree) → (first_bad form Γ t ≡ none) ↔ Typed form Γ t
+  pub checked : (Γ : Ctx) (t : Tree) → (first_bad form Γ t ≡ None) ↔ Typed form Γ t
   checked Γ t = (typed-if Γ t, typed-of Γ t)
 
   -- The first row that fails -------------------------------------------------------------------------------------

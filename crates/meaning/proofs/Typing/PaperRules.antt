@@ -3,7 +3,7 @@ use Prim.Native.Nat.{ℕ, zero, suc, ◌≤◌, ◌<◌}
 use mathlib.Core.Path.{◌≡◌, refl, ap, sym, ◌∙◌, subst}
 use mathlib.Core.Bool.{Bool, true, false, cond}
 use mathlib.Core.List.{List, [], ◌∷◌}
-use mathlib.Core.Option.{Option, none, some}
+use Rattle.std.specs.Prelude.{Option, None, Some}
 use native.Mathlib.Omega.{arith}
 use borrow.Author.Tests.{eq-eqb, eqb-true}
 use lib.Dec.{eqb}
@@ -47,14 +47,14 @@ module _ (q : ℕ → Ty) where
   arg-types [] = refl
   arg-types (p ∷ ps) = ap (elem (q p.type)) (arg-types ps)
 
-  elem-at : (i : ℕ) (ts : List ℕ) (u : ℕ) → place i ts ≡ some u → elem_at i (elems_from q ts) ≡ some (q u)
+  elem-at : (i : ℕ) (ts : List ℕ) (u : ℕ) → place i ts ≡ Some u → elem_at i (elems_from q ts) ≡ Some (q u)
   unfolding place elem_at elems_from
   elem-at i [] u e = absurd (none-some u e)
   elem-at zero (t ∷ ts) u e = absurd (none-some u e)
   elem-at (suc zero) (t ∷ ts) u e = let z : t ≡ u = cc in cc
   elem-at (suc (suc i)) (t ∷ ts) u e = elem-at (suc i) ts u e
 
-  at-elem : (count i : ℕ) (ts : List ℕ) (T : Ty) → every (below count) ts ≡ true → elem_at i (elems_from q ts) ≡ some T → (u : ℕ) × (place i ts ≡ some u) × (u < count) × (q u ≡ T)
+  at-elem : (count i : ℕ) (ts : List ℕ) (T : Ty) → every (below count) ts ≡ true → elem_at i (elems_from q ts) ≡ Some T → (u : ℕ) × (place i ts ≡ Some u) × (u < count) × (q u ≡ T)
   unfolding place elem_at elems_from every
   at-elem count i [] T h e = absurd (none-some T e)
   at-elem count zero (t ∷ ts) T h e = absurd (none-some T e)
@@ -63,8 +63,8 @@ module _ (q : ℕ → Ty) where
 
   -- what a name means as a number and as a type
   pub data Alike (count : ℕ) : Option ℕ → Option Ty → Type 0 where
-    unbound : Alike count none none
-    bound : (n : ℕ) → n < count → Alike count (some n) (some (q n))
+    unbound : Alike count None None
+    bound : (n : ℕ) → n < count → Alike count (Some n) (Some (q n))
 
   abbrev pub Agrees : ℕ → Ctx → Args → Type 0
   Agrees count Γ Δ = (x : ℕ) → Alike count (Γ x) (named Δ x)
@@ -79,15 +79,15 @@ module _ (q : ℕ → Ty) where
   agrees-more count Γ Δ (p ∷ ps) h a x = by_name (eqb x p.name) (agrees-more count Γ Δ ps (right _ _ h) a x)
     where
       by_name : (b : Bool) → Alike count (pick (find ps x) (Γ x)) (named (Δ ⊹ args_from q ps) x)
-          → Alike count (pick (cond b (some p.type) (find ps x)) (Γ x)) (cond b (some (q p.type)) (named (Δ ⊹ args_from q ps) x))
+          → Alike count (pick (cond b (Some p.type) (find ps x)) (Γ x)) (cond b (Some (q p.type)) (named (Δ ⊹ args_from q ps) x))
       by_name true k = bound p.type (below-if count p.type (left _ _ h))
       by_name false k = k
 
-  alike-type : {count : ℕ} {o : Option ℕ} {T : Option Ty} → Alike count o T → (u : ℕ) → o ≡ some u → T ≡ some (q u)
+  alike-type : {count : ℕ} {o : Option ℕ} {T : Option Ty} → Alike count o T → (u : ℕ) → o ≡ Some u → T ≡ Some (q u)
   alike-type unbound u e = absurd (none-some u e)
   alike-type (bound n h) u e = let z : n ≡ u = cc in cc
 
-  alike-number : {count : ℕ} {o : Option ℕ} {O : Option Ty} → Alike count o O → (T : Ty) → O ≡ some T → (n : ℕ) × (o ≡ some n) × (n < count) × (q n ≡ T)
+  alike-number : {count : ℕ} {o : Option ℕ} {O : Option Ty} → Alike count o O → (T : Ty) → O ≡ Some T → (n : ℕ) × (o ≡ Some n) × (n < count) × (q n ≡ T)
   alike-number unbound T e = absurd (none-some T e)
   alike-number (bound n h) T e = (n, refl, h, cc)
 
@@ -303,7 +303,7 @@ module _ (form : ℕ → Form) (count : ℕ) (good : Promises form count) where
       rule-typed (r_truth {b}) Γ u a i e d = (base-told u _ i e, below-lit (truth b) end, tt)
       rule-typed (r_var {x} {T} q) Γ u a i e d =
           let (n, o, l, p) = alike-number stands (a x) T q in
-          (o ∙ ap some (one n u l i (p ∙ sym e)), refl, tt)
+          (o ∙ ap Some (one n u l i (p ∙ sym e)), refl, tt)
       rule-typed (r_native {Γ = Δ} {ps = Ps} {b} {T} h) Γ u a i e (ib, _) =
           let t = fun-told u ntv Ps T i e in
           let (k, q) = has-typed h (Γ ⹁ t.args) (subst (λ (z : Args). Agrees stands count (Γ ⹁ t.args) (Δ ⊹ z)) t.args_are (agrees-more stands count Γ Δ t.args t.args-below a)) ib in
@@ -354,7 +354,7 @@ module _ (form : ℕ → Form) (count : ℕ) (good : Promises form count) where
           let (k, q) = has-typed h Γ a ic in
           let (ts, o, l, p) = tuple_told (ty_of c) Ts (ty_below count c ic) q in
           let (v, z, w, x) = at-elem stands count j ts T l (rw p y) in
-          ((ts, o, z ∙ ap some (one v u w i (x ∙ sym e))), refl, (k, tt))
+          ((ts, o, z ∙ ap Some (one v u w i (x ∙ sym e))), refl, (k, tt))
       rule-typed (r_lproject {i = j} {c} {Ts} {T} h y) Γ u a i e (ic, _) =
           let (k, q) = has-typed h Γ a ic in
           let (n, o, l, p) = list-told (ty_of c) (t_tuple Ts) (ty_below count c ic) q in

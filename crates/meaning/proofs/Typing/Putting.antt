@@ -3,7 +3,7 @@ use Prim.Native.Nat.{ℕ, suc}
 use mathlib.Core.Path.{◌≡◌, refl, ap}
 use mathlib.Core.Bool.{Bool, true, false, cond}
 use mathlib.Core.List.{List}
-use mathlib.Core.Option.{Option, none, some}
+use Rattle.std.specs.Prelude.{Option, None, Some}
 use lib.Dec.{eqb}
 use borrow.Author.Tests.{eqb-true}
 use Rattle.meaning.specs.Bytes.{◌∧ᵇ◌}
@@ -16,35 +16,35 @@ use Rattle.meaning.proofs.Trees.EachRow.{Every, Everys, Due, Listed}
 use Rattle.meaning.proofs.Trees.ByKind.{head-is}
 
 -- where something is put stands a variable
-pub hit-is : (σ : Sub) (h : Head) (v : Tree) → hit σ h ≡ some v → (h ≡ var (word_of h)) × (σ (word_of h) ≡ some v)
+pub hit-is : (σ : Sub) (h : Head) (v : Tree) → hit σ h ≡ Some v → (h ≡ var (word_of h)) × (σ (word_of h) ≡ Some v)
 unfolding hit head_from
 hit-is σ h v e = by_kind (eqb (code h) 5) refl e
   where
-    by_kind : (b : Bool) → eqb (code h) 5 ≡ b → cond b (σ (word_of h)) none ≡ some v → (h ≡ var (word_of h)) × (σ (word_of h) ≡ some v)
+    by_kind : (b : Bool) → eqb (code h) 5 ≡ b → cond b (σ (word_of h)) None ≡ Some v → (h ≡ var (word_of h)) × (σ (word_of h) ≡ Some v)
     by_kind true p e = (head-is 5 h p, e)
     by_kind false p e = absurd (none-some v e)
 
 -- and where a value is due, a future of its number
-pub due-is : (k : ℕ) (v : Tree) (h : Head) (o : Tree) → due k v h ≡ some o → (h ≡ future k) × (v ≡ o)
+pub due-is : (k : ℕ) (v : Tree) (h : Head) (o : Tree) → due k v h ≡ Some o → (h ≡ future k) × (v ≡ o)
 unfolding due head_from
 due-is k v h o e = by_kind (eqb (code h) 9 ∧ᵇ eqb (word_of h) k) refl e
   where
-    by_kind : (b : Bool) → (eqb (code h) 9 ∧ᵇ eqb (word_of h) k) ≡ b → cond b (some v) none ≡ some o → (h ≡ future k) × (v ≡ o)
+    by_kind : (b : Bool) → (eqb (code h) 9 ∧ᵇ eqb (word_of h) k) ≡ b → cond b (Some v) None ≡ Some o → (h ≡ future k) × (v ≡ o)
     by_kind true p e = (cc (head-is 9 h (left _ _ p), eqb-true (word_of h) k (right _ _ p)), cc)
     by_kind false p e = absurd (none-some o e)
 
 -- a written function stays where it stands
-lambda-stays : (σ : Sub) (h : Head) → eqb (code h) 6 ≡ true → hit σ h ≡ none
+lambda-stays : (σ : Sub) (h : Head) → eqb (code h) 6 ≡ true → hit σ h ≡ None
 unfolding hit code head_from
 lambda-stays σ h e = ap (hit σ) (head-is 6 h e)
 
-lambda-rests : (k : ℕ) (v : Tree) (h : Head) → eqb (code h) 6 ≡ true → due k v h ≡ none
+lambda-rests : (k : ℕ) (v : Tree) (h : Head) → eqb (code h) 6 ≡ true → due k v h ≡ None
 unfolding due code head_from ◌∧ᵇ◌
 lambda-rests k v h e = ap (due k v) (head-is 6 h e)
 
 module _ (form : ℕ → Form) where
   -- a rule looks at the names around it only at a variable
-  rule-at : (Γ Δ : Ctx) (h : Head) (ty : ℕ) (us : Tys (arity h)) → ((x : ℕ) → h ≡ var x → Γ x ≡ some ty → Δ x ≡ some ty) → Rule form Γ h ty us → Rule form Δ h ty us
+  rule-at : (Γ Δ : Ctx) (h : Head) (ty : ℕ) (us : Tys (arity h)) → ((x : ℕ) → h ≡ var x → Γ x ≡ Some ty → Δ x ≡ Some ty) → Rule form Γ h ty us → Rule form Δ h ty us
   unfolding Rule
   rule-at Γ Δ (lit l) ty ⟨⟩ k r = r
   rule-at Γ Δ (var x) ty ⟨⟩ k r = k x refl r
@@ -64,7 +64,7 @@ module _ (form : ℕ → Form) where
   rule-at Γ Δ (bind y) ty (a ▹ b ▹ ⟨⟩) k r = r
 
   -- at a variable the rule is that the name has the type
-  rule-name : (Γ : Ctx) (h : Head) (ty : ℕ) (us : Tys (arity h)) (x : ℕ) → h ≡ var x → Rule form Γ h ty us → Γ x ≡ some ty
+  rule-name : (Γ : Ctx) (h : Head) (ty : ℕ) (us : Tys (arity h)) (x : ℕ) → h ≡ var x → Rule form Γ h ty us → Γ x ≡ Some ty
   unfolding Rule
   rule-name Γ (lit l) ty us x e r = cc
   rule-name Γ (var y) ty ⟨⟩ x e r = let q : y ≡ x = cc in rw (← q) r
@@ -86,15 +86,15 @@ module _ (form : ℕ → Form) where
   -- More names do no harm ----------------------------------------------------------------------------------------
 
   abbrev pub Wider : Ctx → Ctx → Type 0
-  Wider Γ Δ = (x ty : ℕ) → Γ x ≡ some ty → Δ x ≡ some ty
+  Wider Γ Δ = (x ty : ℕ) → Γ x ≡ Some ty → Δ x ≡ Some ty
 
   wider-under : (Γ Δ : Ctx) (ps : List Param) → Wider Γ Δ → Wider (Γ ⹁ ps) (Δ ⹁ ps)
   unfolding ◌⹁◌ pick
   wider-under Γ Δ ps w x ty e = by_name (find ps x) e
     where
-      by_name : (o : Option ℕ) → pick o (Γ x) ≡ some ty → pick o (Δ x) ≡ some ty
-      by_name none e = w x ty e
-      by_name (some u) e = e
+      by_name : (o : Option ℕ) → pick o (Γ x) ≡ Some ty → pick o (Δ x) ≡ Some ty
+      by_name None e = w x ty e
+      by_name (Some u) e = e
 
   mutual
     unfolding Typed
@@ -114,19 +114,19 @@ module _ (form : ℕ → Form) where
 
   -- what is put for a name is closed and of its type; a name for which nothing is put keeps its type
   unfoldable pub Fit : Option Tree → Option ℕ → ℕ → Type 0
-  Fit none g ty = g ≡ some ty
-  Fit (some v) g ty = Typed form empty v × (ty_of v ≡ ty)
+  Fit None g ty = g ≡ Some ty
+  Fit (Some v) g ty = Typed form empty v × (ty_of v ≡ ty)
 
   abbrev pub Fits : Sub → Ctx → Ctx → Type 0
-  Fits σ Γ Δ = (x ty : ℕ) → Γ x ≡ some ty → Fit (σ x) (Δ x) ty
+  Fits σ Γ Δ = (x ty : ℕ) → Γ x ≡ Some ty → Fit (σ x) (Δ x) ty
 
   fits_under : (σ : Sub) (Γ Δ : Ctx) (ps : List Param) → Fits σ Γ Δ → Fits (hide ps σ) (Γ ⹁ ps) (Δ ⹁ ps)
   unfolding ◌⹁◌ pick hide veil Fit
   fits_under σ Γ Δ ps w x ty e = by_name (find ps x) e
     where
-      by_name : (o : Option ℕ) → pick o (Γ x) ≡ some ty → Fit (veil o (σ x)) (pick o (Δ x)) ty
-      by_name none e = w x ty e
-      by_name (some u) e = e
+      by_name : (o : Option ℕ) → pick o (Γ x) ≡ Some ty → Fit (veil o (σ x)) (pick o (Δ x)) ty
+      by_name None e = w x ty e
+      by_name (Some u) e = e
 
   below_put : {n : ℕ} (s : ℕ → List Param) (σ : Sub) (b : Bool) (f : Forest n) → cond b (first_is 6 f) true ≡ true → cond b (first_is 6 (puts form s σ f)) true ≡ true
   unfolding first_is is head_of put swap
@@ -138,9 +138,9 @@ module _ (form : ℕ → Form) where
       → TypedF form Δ (scope form h ty (tys f)) g → tys g ≡ tys f → (o : Option Tree) → hit σ h ≡ o
       → Typed form Δ (swap o (node h ty g)) × (ty_of (swap o (node h ty g)) ≡ ty)
   unfolding Typed swap ty_of hit code word_of Fit
-  put-node σ Γ Δ h ty f g w r b k e none q =
-      (rw e (rule-at Γ Δ h ty (tys f) (λ x p d. let n : σ x ≡ none = rw p at q in rw n at (w x ty d)) r, b, k), refl)
-  put-node σ Γ Δ h ty f g w r b k e (some v) q =
+  put-node σ Γ Δ h ty f g w r b k e None q =
+      (rw e (rule-at Γ Δ h ty (tys f) (λ x p d. let n : σ x ≡ None = rw p at q in rw n at (w x ty d)) r, b, k), refl)
+  put-node σ Γ Δ h ty f g w r b k e (Some v) q =
       let (p, n) = hit-is σ h v q in
       let (c, d) = rw n at (w (word_of h) ty (rule-name Γ h ty (tys f) (word_of h) p r)) in
       (weaken-closed Δ v c, d)
@@ -169,25 +169,25 @@ module _ (form : ℕ → Form) where
   below-settle k v true (more (node h ty f) g) e = rw (lambda-rests k v h e) e
   below-settle k v false f e = refl
 
-  settle-node : (Φ : ℕ → Option ℕ) (Γ : Ctx) (k : ℕ) (v : Tree) (h : Head) (ty : ℕ) (f g : Forest (arity h)) → Φ k ≡ some (ty_of v) → Typed form empty v → Due Φ h ty → Rule form Γ h ty (tys f) → below_ok h g ≡ true
+  settle-node : (Φ : ℕ → Option ℕ) (Γ : Ctx) (k : ℕ) (v : Tree) (h : Head) (ty : ℕ) (f g : Forest (arity h)) → Φ k ≡ Some (ty_of v) → Typed form empty v → Due Φ h ty → Rule form Γ h ty (tys f) → below_ok h g ≡ true
       → TypedF form Γ (scope form h ty (tys f)) g → tys g ≡ tys f → (o : Option Tree) → due k v h ≡ o
       → Typed form Γ (swap o (node h ty g)) × (ty_of (swap o (node h ty g)) ≡ ty)
   unfolding Typed swap ty_of
-  settle-node Φ Γ k v h ty f g l c a r b d e none q = (rw e (r, b, d), refl)
-  settle-node Φ Γ k v h ty f g l c a r b d e (some u) q =
+  settle-node Φ Γ k v h ty f g l c a r b d e None q = (rw e (r, b, d), refl)
+  settle-node Φ Γ k v h ty f g l c a r b d e (Some u) q =
       let (p, p') = due-is k v h u q in
-      let m : Φ k ≡ some ty = a k p in
+      let m : Φ k ≡ Some ty = a k p in
       rw (← p') (weaken-closed Γ v c, cc)
 
   mutual
     unfolding Typed Every settle tys below_ok ty_of
 
-    pub settle-typed : (Φ : ℕ → Option ℕ) (k : ℕ) (v : Tree) → Φ k ≡ some (ty_of v) → Typed form empty v → (Γ : Ctx) (t : Tree) → Listed Φ t → Typed form Γ t → Typed form Γ (settle k v t) × (ty_of (settle k v t) ≡ ty_of t)
+    pub settle-typed : (Φ : ℕ → Option ℕ) (k : ℕ) (v : Tree) → Φ k ≡ Some (ty_of v) → Typed form empty v → (Γ : Ctx) (t : Tree) → Listed Φ t → Typed form Γ t → Typed form Γ (settle k v t) × (ty_of (settle k v t) ≡ ty_of t)
     settle-typed Φ k v l c Γ (node h ty f) (a, j) (r, b, d) =
         let (d', e) = settles-typed Φ k v l c Γ (scope form h ty (tys f)) f j d in
         settle-node Φ Γ k v h ty f (settles k v f) l c a r (below-settle k v (eqb (code h) 11) f b) d' e (due k v h) refl
 
-    settles-typed : {n : ℕ} (Φ : ℕ → Option ℕ) (k : ℕ) (v : Tree) → Φ k ≡ some (ty_of v) → Typed form empty v → (Γ : Ctx) (s : ℕ → List Param) (f : Forest n) → Everys (Due Φ) f → TypedF form Γ s f
+    settles-typed : {n : ℕ} (Φ : ℕ → Option ℕ) (k : ℕ) (v : Tree) → Φ k ≡ Some (ty_of v) → Typed form empty v → (Γ : Ctx) (s : ℕ → List Param) (f : Forest n) → Everys (Due Φ) f → TypedF form Γ s f
         → TypedF form Γ s (settles k v f) × (tys (settles k v f) ≡ tys f)
     settles-typed Φ k v l c Γ s end j d = (tt, refl)
     settles-typed Φ k v l c Γ s (more t f) (i, j) (a, d) =

@@ -5,7 +5,7 @@ use mathlib.Core.Path.{◌≡◌, refl, ap, sym, ◌∙◌}
 use mathlib.Core.Bool.{Bool, true}
 use mathlib.Core.Logic.{◌↔◌}
 use mathlib.Core.List.{List, [], ◌∷◌}
-use mathlib.Core.Option.{none}
+use Rattle.std.specs.Prelude.{None}
 use native.Mathlib.Omega.{arith}
 use borrow.Author.Tests.{lt-ltb}
 use lib.Dec.{ltb}
@@ -196,7 +196,7 @@ module _ (form : ℕ → Form) (count : ℕ) (good : Promises form count) where
     one_number t u h k e = one_below (suc t) t u (omega arith) h k e
 
 -- two numbers of a table that passes stand for one type exactly if they are equal
-module _ (rows : List (List ℕ)) (wide : Wide 19 rows) (pass : bad_type version rows ≡ none) where
+module _ (rows : List (List ℕ)) (wide : Wide 19 rows) (pass : bad_type version rows ≡ None) where
   pub one-of-table : (t u : ℕ) → t < length rows → u < length rows → type_of (form_of rows) t ≡ type_of (form_of rows) u → t ≡ u
   one-of-table = one_number (form_of rows) (length rows) (promised rows pass) (equal-forms rows wide pass)
 

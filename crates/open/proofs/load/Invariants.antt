@@ -1,5 +1,4 @@
 -- `open::load` meets its contract: one entry more with each turn. Assumes nothing.
-use Prim.Native.Nat.{◌-◌, ◌≤◌}
 use mathlib.Core.Path.{◌≡◌}
 use lib.ListN.{length, take}
 use Rattle.open.specs.Open.{call}
@@ -9,7 +8,4 @@ use Rattle.meaning.specs.Records.{entry_of}
 use Rattle.open.proofs.load.Given as goal
 
 abbrev pub invariant-loop-i : goal.invariant-loop-i
-invariant-loop-i l = (l.i ≤ l.count) × (length l.list.entries ≡ 64) × (l.list.count ≡ l.count) × (map call (take l.i l.list.entries) ≡ map entry_of (reads entry_row l.i l.calls))
-
-abbrev pub decreases-loop-i : goal.decreases-loop-i
-decreases-loop-i l = l.count - l.i
+invariant-loop-i l = (length l.entries ≡ 64) × (map call (take l.i l.entries) ≡ map entry_of (reads entry_row l.i l.calls))

@@ -1,41 +1,15 @@
--- By the row's kind, and by the place of its name.
-use mathlib.Core.Path.{ap, sym, ◌∙◌}
+-- By the place of the row's name.
+use mathlib.Core.Path.{sym}
 use native.Mathlib.Omega.{arith}
-use Rattle.meaning.specs.Terms.{row_of}
-use Rattle.layout.specs.Rows.{found}
-use Rattle.put.proofs.Passing.{pick-below}
-use Rattle.put.proofs.Turning.{chosen-var, chosen_none, span-at, span-own}
+use Rattle.put.proofs.Passing.{chosen-below}
+use Rattle.put.proofs.Turning.{span-at, span-own}
 use Rattle.put.proofs.spot.Goals as goal
 
-pub bounds-bounds-p : goal.bounds-bounds-p
-bounds-bounds-p c =
-    let p = c.requires in
-    let j = pick-below c.args.names.now c.args.m c.args.r.word _ (sym c.place_of-f.ensures ∙ ap found c.in-At.is) in
-    omega (arith, j, p.0, p.1)
+pub argument-requires : goal.argument-requires
+argument-requires c = omega (arith, chosen-below c.args.names.now _ _ _ (sym c.in-Some.ensures), c.requires)
 
-pub bounds-bounds-p-in-At : goal.bounds-bounds-p-in-At
-bounds-bounds-p-in-At c =
-    let p = c.requires in
-    let j = pick-below c.args.names.now c.args.m c.args.r.word _ (sym c.place_of-f.ensures ∙ ap found c.in-At.is) in
-    omega (arith, j, p.0, p.1)
+pub returns-in-Some : goal.returns-in-Some
+returns-in-Some c = span-at c.args.bounds.now c.args.i _ _ _ _ (sym c.in-Some.ensures) c.argument.ensures.0 c.argument.ensures.1
 
-pub returns-in-At : goal.returns-in-At
-unfolding row_of
-returns-in-At c =
-    (
-    let a = c.args in
-    span-at a.bounds.now a.i _ _ _ _ (chosen-var a.names.now a.r.kind a.r.n a.r.word a.m c.if-k-eq5.true ∙ sym c.place_of-f.ensures ∙ ap found c.in-At.is) c.wide.ensures c.wide-in-At.ensures)
-
-pub returns-in-Nothing : goal.returns-in-Nothing
-unfolding row_of
-returns-in-Nothing c =
-    (
-    let a = c.args in
-    span-own a.bounds.now a.i _ (chosen-var a.names.now a.r.kind a.r.n a.r.word a.m c.if-k-eq5.true ∙ sym c.place_of-f.ensures ∙ ap found c.in-Nothing.is))
-
-pub returns : goal.returns
-unfolding row_of
-returns c =
-    (
-    let a = c.args in
-    span-own a.bounds.now a.i _ (chosen_none a.names.now a.r.kind a.r.n a.r.word a.m c.if-k-eq5.false))
+pub returns-in-None : goal.returns-in-None
+returns-in-None c = span-own c.args.bounds.now c.args.i _ (sym c.in-None.ensures)

@@ -13,28 +13,8 @@ loop-p-init c =
     let pre = c.requires in
     (refl, refl, pre.3, λ form. rises-not form c.args.rows.now c.args.stack.now _ _ _ pre.0 pre.3)
 
-pub shape_of-bound-then-term_rows-p : goal.shape_of-bound-then-term_rows-p
-shape_of-bound-then-term_rows-p c =
-    let loop = c.loop-p in
-    omega (arith, loop.invariant.0, loop.invariant.1)
-
-pub shape_of-heads-then-term_rows-p : goal.shape_of-heads-then-term_rows-p
-shape_of-heads-then-term_rows-p c =
-    let loop = c.loop-p in
-    omega (arith, loop.invariant.0, loop.invariant.1)
-
 pub returns-then-term_rows-p : goal.returns-then-term_rows-p
 returns-then-term_rows-p c = λ z. absurd (never c.refused.ensures z)
-
-pub shape_of-bound-then-word_of-e : goal.shape_of-bound-then-word_of-e
-shape_of-bound-then-word_of-e c =
-    let loop = c.loop-p in
-    omega (arith, loop.invariant.0, loop.invariant.1)
-
-pub shape_of-heads-then-word_of-e : goal.shape_of-heads-then-word_of-e
-shape_of-heads-then-word_of-e c =
-    let loop = c.loop-p in
-    omega (arith, loop.invariant.0, loop.invariant.1)
 
 pub returns-then-word_of-e : goal.returns-then-word_of-e
 returns-then-word_of-e c =
@@ -46,16 +26,6 @@ returns-then-word_of-e c =
     let word_of = c.word_of in
     let if4 = c.if-word_of-e in
     λ z. (λ y. absurd (never y refl), λ form. rises-on form args.rows.now args.stack.now _ _ _ _ _ _ _ _ (loop.invariant.3 form) loop.invariant.2 (rises-tree form args.rows.now _ _ _ _ _ (omega (arith, if1.true)) (loop.invariant.3 form).arrays.chained refl if2.true (omega (arith, type_at.ensures, word_of.ensures, if4.true))))
-
-pub shape_of-bound-then-e-lt-ENDS : goal.shape_of-bound-then-e-lt-ENDS
-shape_of-bound-then-e-lt-ENDS c =
-    let loop = c.loop-p in
-    omega (arith, loop.invariant.0, loop.invariant.1)
-
-pub shape_of-heads-then-e-lt-ENDS : goal.shape_of-heads-then-e-lt-ENDS
-shape_of-heads-then-e-lt-ENDS c =
-    let loop = c.loop-p in
-    omega (arith, loop.invariant.0, loop.invariant.1)
 
 pub returns-then-e-lt-ENDS : goal.returns-then-e-lt-ENDS
 returns-then-e-lt-ENDS c = λ z. absurd (never c.refused-then-e-lt-ENDS.ensures z)
@@ -88,16 +58,6 @@ loop-p-preserved c =
     let on = scope.ensures (not-false _ if5.false) in
     let up = on.2 (form_of []) args.stack.now if1.true refl in
     (omega (arith, up.same_names, loop.invariant.0), omega (arith, up.arrays.chained.chains, (loop.invariant.3 (form_of [])).arrays.chained.chains, loop.invariant.1), on.1, λ form. rises-on form args.rows.now args.stack.now _ _ _ _ _ _ _ _ (loop.invariant.3 form) loop.invariant.2 (on.2 form args.stack.now if1.true refl))
-
-pub shape_of-bound : goal.shape_of-bound
-shape_of-bound c =
-    let loop = c.loop-p in
-    omega (arith, loop.invariant.0, loop.invariant.1)
-
-pub shape_of-heads : goal.shape_of-heads
-shape_of-heads c =
-    let loop = c.loop-p in
-    omega (arith, loop.invariant.0, loop.invariant.1)
 
 pub returns : goal.returns
 returns c =

@@ -1,14 +1,13 @@
 -- The loop's invariant: what is due is good only if the whole is, and there is a future only where one was seen. Assumes nothing.
-use Prim.Native.Nat.{◌/◌}
 use mathlib.Core.Path.{refl, ◌∙◌}
 use native.Mathlib.Omega.{arith}
-use borrow.Author.Tests.{eqb-true, not-true, not-false}
+use borrow.Author.Tests.{not-true, not-false}
 use lib.ListN.{length}
 use Rattle.layout.specs.Rows.{row_table}
 use Rattle.layout.proofs.Tables.{row-table-length}
 use Rattle.rules.specs.Forms.{forms}
 use Rattle.quick.proofs.Chains.{scope-end}
-use Rattle.quick.proofs.Turning.{still-end, nothing-due, down-next, rise-next, rise-last, still-down, still-rise, shows_nothing, shows-all}
+use Rattle.quick.proofs.Turning.{still-end, nothing-due, down-next, rise-next, rise-last, still-down, still-rise, shows-all}
 use Rattle.quick.proofs.walk.Goals as goal
 
 pub loop-p-init : goal.loop-p-init
@@ -16,16 +15,6 @@ loop-p-init c =
     let pre = c.requires in
     let args = c.args in
     (record { within = omega arith; chained = pre.1 }, refl, refl, refl, λ g. rw (nothing-due args.stack.now, scope-end args.bound.now) at g, λ f s. s)
-
-pub returns-then-p-lt-SPARE : goal.returns-then-p-lt-SPARE
-returns-then-p-lt-SPARE c =
-    let unsure = c.unsure in
-    shows_nothing _ _ _ _ unsure.ensures
-
-pub returns-then-all-i : goal.returns-then-all-i
-returns-then-all-i c =
-    let unsure2 = c.unsure-then-all-i in
-    shows_nothing _ _ _ _ unsure2.ensures
 
 pub see-p-requires : goal.see-p-requires
 see-p-requires c =
@@ -35,11 +24,6 @@ see-p-requires c =
     let if1 = c.if-p-lt-SPARE in
     let loop = c.loop-p in
     ((omega (arith, term_rows_here.ensures, if2.false)), pre.3, record { spare = omega (arith, if1.false); within = loop.invariant.0.within }, loop.invariant.0.chained)
-
-pub returns-then-not-p : goal.returns-then-not-p
-returns-then-not-p c =
-    let unsure3 = c.unsure-then-not-p in
-    shows_nothing _ _ _ _ unsure3.ensures
 
 pub rise-p-requires : goal.rise-p-requires
 rise-p-requires c =
@@ -51,43 +35,8 @@ rise-p-requires c =
     let see-row = see.ensures (not-false _ if3.false) in
     (see-row.arrays, pre.3, omega (arith, see-row.same-dues, loop.invariant.1, pre.0), not-true _ if4.true)
 
-pub shape_of-stack-then-not-p-3 : goal.shape_of-stack-then-not-p-3
-shape_of-stack-then-not-p-3 c =
-    let loop = c.loop-p in
-    omega (arith, loop.invariant.1, loop.invariant.2, loop.invariant.3)
-
-pub shape_of-bound-then-not-p-3 : goal.shape_of-bound-then-not-p-3
-shape_of-bound-then-not-p-3 c =
-    let loop = c.loop-p in
-    omega (arith, loop.invariant.1, loop.invariant.2, loop.invariant.3)
-
-pub shape_of-heads-then-not-p-3 : goal.shape_of-heads-then-not-p-3
-shape_of-heads-then-not-p-3 c =
-    let loop = c.loop-p in
-    omega (arith, loop.invariant.1, loop.invariant.2, loop.invariant.3)
-
-pub returns-then-not-p-3 : goal.returns-then-not-p-3
-returns-then-not-p-3 c =
-    let unsure4 = c.unsure-then-not-p-3 in
-    shows_nothing _ _ _ _ unsure4.ensures
-
-pub shape_of-stack-then-not-p-4 : goal.shape_of-stack-then-not-p-4
-shape_of-stack-then-not-p-4 c =
-    let loop = c.loop-p in
-    omega (arith, loop.invariant.1, loop.invariant.2, loop.invariant.3)
-
-pub shape_of-bound-then-not-p-4 : goal.shape_of-bound-then-not-p-4
-shape_of-bound-then-not-p-4 c =
-    let loop = c.loop-p in
-    omega (arith, loop.invariant.1, loop.invariant.2, loop.invariant.3)
-
-pub shape_of-heads-then-not-p-4 : goal.shape_of-heads-then-not-p-4
-shape_of-heads-then-not-p-4 c =
-    let loop = c.loop-p in
-    omega (arith, loop.invariant.1, loop.invariant.2, loop.invariant.3)
-
-pub returns-then-not-p-4 : goal.returns-then-not-p-4
-returns-then-not-p-4 c =
+pub returns-then-p-all : goal.returns-then-p-all
+returns-then-p-all c =
     let see = c.see-p in
     let if3 = c.if-not-p in
     let rise = c.rise-p in
@@ -102,8 +51,8 @@ returns-then-not-p-4 c =
     let up = rise.ensures (not-false _ if5.false) in
     let no_more = not-true _ if6.true in
     shows-all args.types.now args.rows.now _ _
-    (λ z. rise-last (length args.types.now / 36) (forms args.types.now) args.rows.now _ _ _ _ _ _ _ _ loop.invariant.4 see-row _ _ _ (not-true _ if4.true) (up.1 _) no_more (up.0 no_more) (eqb-true _ _ z ∙ term_rows_here.ensures))
-    (λ z f. still-rise (length args.types.now / 36) (forms args.types.now) args.rows.now _ _ _ _ _ loop.p _ (omega (arith, term_rows_here.ensures, if2.false)) loop.invariant.5 see-row _ _ _ (up.1 _) f (still-end (row_table args.rows.now) rise.result.i (omega (arith, eqb-true rise.result.i term_rows_here.result z, term_rows_here.ensures, row-table-length args.rows.now))))
+    (rise-last (length args.types.now) (forms args.types.now) args.rows.now _ _ _ _ _ _ _ _ loop.invariant.4 see-row _ _ _ (not-true _ if4.true) (up.1 _) no_more (up.0 no_more) (c.if-p-all.true ∙ term_rows_here.ensures))
+    (λ f. still-rise (length args.types.now) (forms args.types.now) args.rows.now _ _ _ _ _ loop.p _ (omega (arith, term_rows_here.ensures, if2.false)) loop.invariant.5 see-row _ _ _ (up.1 _) f (still-end (row_table args.rows.now) rise.result.i (omega (arith, c.if-p-all.true, term_rows_here.ensures, row-table-length args.rows.now))))
 
 pub loop-p-smaller-else-not-p-4 : goal.loop-p-smaller-else-not-p-4
 loop-p-smaller-else-not-p-4 c =
@@ -136,8 +85,8 @@ loop-p-preserved-else-not-p-4 c =
       see-row.same-dues ∙ loop.invariant.1,
       up.same_names ∙ see-row.same_names ∙ loop.invariant.2,
       omega (arith, up.arrays.chained.chains, loop.invariant.0.chained.chains, loop.invariant.3),
-      rise-next (length args.types.now / 36) (forms args.types.now) args.rows.now _ _ _ _ _ _ _ _ loop.invariant.4 see-row _ _ _ (not-true _ if4.true) up (not-false _ if6.false),
-      still-rise (length args.types.now / 36) (forms args.types.now) args.rows.now _ _ _ _ _ loop.p _ (omega (arith, term_rows_here.ensures, if2.false)) loop.invariant.5 see-row _ _ _ up,
+      rise-next (length args.types.now) (forms args.types.now) args.rows.now _ _ _ _ _ _ _ _ loop.invariant.4 see-row _ _ _ (not-true _ if4.true) up (not-false _ if6.false),
+      still-rise (length args.types.now) (forms args.types.now) args.rows.now _ _ _ _ _ loop.p _ (omega (arith, term_rows_here.ensures, if2.false)) loop.invariant.5 see-row _ _ _ up,
     )
 
 pub loop-p-smaller : goal.loop-p-smaller
@@ -163,6 +112,6 @@ loop-p-preserved c =
       see-row.same-dues ∙ loop.invariant.1,
       see-row.same_names ∙ loop.invariant.2,
       omega (arith, see-row.arrays.chained.chains, loop.invariant.0.chained.chains, loop.invariant.3),
-      down-next (length args.types.now / 36) (forms args.types.now) args.rows.now _ _ _ _ _ _ _ _ loop.invariant.4 see-row (not-false _ if4.false),
-      still-down (length args.types.now / 36) (forms args.types.now) args.rows.now _ _ _ _ _ loop.p _ (omega (arith, term_rows_here.ensures, if2.false)) loop.invariant.5 see-row,
+      down-next (length args.types.now) (forms args.types.now) args.rows.now _ _ _ _ _ _ _ _ loop.invariant.4 see-row (not-false _ if4.false),
+      still-down (length args.types.now) (forms args.types.now) args.rows.now _ _ _ _ _ loop.p _ (omega (arith, term_rows_here.ensures, if2.false)) loop.invariant.5 see-row,
     )

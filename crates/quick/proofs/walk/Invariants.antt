@@ -15,8 +15,8 @@ use Rattle.quick.proofs.walk.Given as goal
 abbrev pub invariant-loop-p : goal.invariant-loop-p
 invariant-loop-p l =
     Arrays l.stack l.bound l.heads l.p × (length l.stack ≡ length l.initial.stack) × (length l.bound ≡ length l.initial.bound) × (length l.heads ≡ length l.initial.heads)
-    × (Good 1 (length l.types / 36) (forms l.types) (row_table l.rows) (wanted (ty_of (tree_at (term_rows l.rows) l.p.i)) ∷ dues l.stack l.p.s) (in_scope l.bound l.p.b) l.p.i
-    → Good 1 (length l.types / 36) (forms l.types) (row_table l.rows) (wanted (ty_of (tree_at (term_rows l.rows) 0)) ∷ []) [] 0)
+    × (Good 1 (length l.types) (forms l.types) (row_table l.rows) (wanted (ty_of (tree_at (term_rows l.rows) l.p.i)) ∷ dues l.stack l.p.s) (in_scope l.bound l.p.b) l.p.i
+    → Good 1 (length l.types) (forms l.types) (row_table l.rows) (wanted (ty_of (tree_at (term_rows l.rows) 0)) ∷ []) [] 0)
     × (l.p.future ≡ false → Still (row_table l.rows) l.p.i → Still (row_table l.rows) 0)
 
 abbrev pub decreases-loop-p : goal.decreases-loop-p

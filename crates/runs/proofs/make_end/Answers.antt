@@ -73,8 +73,8 @@ overflow_add-q c =
     let of = ending-fits form left args.work.now G.0 args.s args.old args.new pre.2 l8 G.3 in
     omega (arith, of, pre.0, pre.4, c.rows_at.ensures, rl)
 
-pub slice_bounds-reduce-end : goal.slice_bounds-reduce-end
-slice_bounds-reduce-end c =
+pub slice_bounds-new-end : goal.slice_bounds-new-end
+slice_bounds-new-end c =
     let args = c.args in
     let pre = c.requires in
     let G = pre.5 in
@@ -86,8 +86,8 @@ slice_bounds-reduce-end c =
     let of = ending-fits form left args.work.now G.0 args.s args.old args.new pre.2 l8 G.3 in
     omega (arith, c.types_end-e.ensures, pre.0, types-fit mb (type_count args.kept.now) pre.1, rl)
 
-pub slice_bounds-reduce-end-2 : goal.slice_bounds-reduce-end-2
-slice_bounds-reduce-end-2 c =
+pub slice_bounds-reduce-end : goal.slice_bounds-reduce-end
+slice_bounds-reduce-end c =
     let args = c.args in
     let pre = c.requires in
     let G = pre.5 in
@@ -113,7 +113,7 @@ reduce-requires c =
     let p0 = c.rows_at.result in
     let x = take (p0 + 8 * (args.s.l - args.old) + 8 * args.old - (p0 + 8 * (args.s.l - args.old))) (drop (p0 + 8 * (args.s.l - args.old)) args.kept.now) in
     let ex = lent_rows mb args.kept.now p0 (8 * (args.s.l - args.old)) (8 * args.old) c.rows_at.ensures in
-    let types = lent-types args.kept.now c.types_end-e.result c.types_end-e.ensures (omega (arith, types-fit mb (type_count args.kept.now) pre.1, pre.0, rl)) in
+    let types = c.new.ensures ∙ lent-types args.kept.now c.types_end-e.result c.types_end-e.ensures (omega (arith, types-fit mb (type_count args.kept.now) pre.1, pre.0, rl)) in
     let b1 = 8 * (args.s.r - args.new) in
     let lt0 : length (take (b1 + 8 * args.new - b1) (drop b1 args.work.now)) ≡ 8 * args.new = length-take (b1 + 8 * args.new - b1) (drop b1 args.work.now) ∙ omega (arith, length-drop b1 args.work.now, G.1.ends, G.2) in
     let some = ending-some form left args.work.now G.0 args.s args.old args.new pre.2 l8 G.3 in (
@@ -162,7 +162,7 @@ returns c =
     let p0 = c.rows_at.result in
     let x = take (p0 + 8 * (args.s.l - args.old) + 8 * args.old - (p0 + 8 * (args.s.l - args.old))) (drop (p0 + 8 * (args.s.l - args.old)) args.kept.now) in
     let ex = lent_rows mb args.kept.now p0 (8 * (args.s.l - args.old)) (8 * args.old) c.rows_at.ensures in
-    let types = lent-types args.kept.now c.types_end-e.result c.types_end-e.ensures (omega (arith, types-fit mb (type_count args.kept.now) pre.1, pre.0, rl)) in
+    let types = c.new.ensures ∙ lent-types args.kept.now c.types_end-e.result c.types_end-e.ensures (omega (arith, types-fit mb (type_count args.kept.now) pre.1, pre.0, rl)) in
     let b1 = 8 * (args.s.r - args.new) in
     let lt0 : length (take (b1 + 8 * args.new - b1) (drop b1 args.work.now)) ≡ 8 * args.new = length-take (b1 + 8 * args.new - b1) (drop b1 args.work.now) ∙ omega (arith, length-drop b1 args.work.now, G.1.ends, G.2) in
     let red = c.reduce in

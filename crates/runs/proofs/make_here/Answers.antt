@@ -119,8 +119,8 @@ overflow_add-b c =
     let of = going-fits form left args.work.now G.0 args.s args.old args.new pre.2 G.4 in
     omega (arith, of, G.1.ends, G.1.few, G.3)
 
-pub slice_bounds-reduce-end : goal.slice_bounds-reduce-end
-slice_bounds-reduce-end c =
+pub slice_bounds-new-end : goal.slice_bounds-new-end
+slice_bounds-new-end c =
     let args = c.args in
     let pre = c.requires in
     let G = pre.4 in
@@ -130,8 +130,8 @@ slice_bounds-reduce-end c =
     let of = going-fits form left args.work.now G.0 args.s args.old args.new pre.2 G.4 in
     omega (arith, c.types_end-e.ensures, pre.0, types-fit (board args.m) (type_count args.kept.now) pre.1, record-long (board args.m), c.copy_to.auto.dst)
 
-pub slice_bounds-reduce-end-2 : goal.slice_bounds-reduce-end-2
-slice_bounds-reduce-end-2 c =
+pub slice_bounds-reduce-end : goal.slice_bounds-reduce-end
+slice_bounds-reduce-end c =
     let args = c.args in
     let pre = c.requires in
     let G = pre.4 in
@@ -141,8 +141,8 @@ slice_bounds-reduce-end-2 c =
     let of = going-fits form left args.work.now G.0 args.s args.old args.new pre.2 G.4 in
     omega (arith, of, G.1.ends, G.2, pre.0, c.rows_at.ensures, record-long (board args.m), c.copy_to.auto.dst)
 
-pub slice_bounds-reduce-end-3 : goal.slice_bounds-reduce-end-3
-slice_bounds-reduce-end-3 c =
+pub slice_bounds-reduce-end-2 : goal.slice_bounds-reduce-end-2
+slice_bounds-reduce-end-2 c =
     let args = c.args in
     let pre = c.requires in
     let G = pre.4 in
@@ -173,7 +173,7 @@ reduce-requires c =
     let te = c.types_end-e.result in
     let ete = c.types_end-e.ensures in
     let tf = types-fit mb (type_count args.kept.now) pre.1 in
-    let types : type_table (take (te - 20) (drop 20 kept1)) ≡ types_in args.kept.now = ap (λ (l : List ℕ). type_table l) (source-types mb args.kept.now kept1 args.work.now args.s args.old room1 room2 copied (te - 20) (omega (arith, ete, tf))) ∙ lent-types args.kept.now te ete (omega (arith, tf, pre.0, record-long mb)) in
+    let types : c.new.result ≡ types_in args.kept.now = c.new.ensures ∙ ap (λ (l : List ℕ). type_table l) (source-types mb args.kept.now kept1 args.work.now args.s args.old room1 room2 copied (te - 20) (omega (arith, ete, tf))) ∙ lent-types args.kept.now te ete (omega (arith, tf, pre.0, record-long mb)) in
     let b1 = 8 * (args.s.r + args.old - args.new) in
     let lt : length (take (b1 + 8 * args.new - b1) (drop b1 args.work.now)) ≡ 8 * args.new = length-take (b1 + 8 * args.new - b1) (drop b1 args.work.now) ∙ omega (arith, length-drop b1 args.work.now, of, G.1.ends, G.3) in
     let some = going-some form left args.work.now G.0 args.s args.old args.new pre.2 G.4 in (
@@ -214,7 +214,7 @@ returns c =
     let te = c.types_end-e.result in
     let ete = c.types_end-e.ensures in
     let tf = types-fit mb (type_count args.kept.now) pre.1 in
-    let types : type_table (take (te - 20) (drop 20 kept1)) ≡ types_in args.kept.now = ap (λ (l : List ℕ). type_table l) (source-types mb args.kept.now kept1 args.work.now args.s args.old room1 room2 copied (te - 20) (omega (arith, ete, tf))) ∙ lent-types args.kept.now te ete (omega (arith, tf, pre.0, record-long mb)) in
+    let types : c.new.result ≡ types_in args.kept.now = c.new.ensures ∙ ap (λ (l : List ℕ). type_table l) (source-types mb args.kept.now kept1 args.work.now args.s args.old room1 room2 copied (te - 20) (omega (arith, ete, tf))) ∙ lent-types args.kept.now te ete (omega (arith, tf, pre.0, record-long mb)) in
     let b1 = 8 * (args.s.r + args.old - args.new) in
     let red = c.reduce in
     let lt0 : length (take (b1 + 8 * args.new - b1) (drop b1 args.work.now)) ≡ 8 * args.new = length-take (b1 + 8 * args.new - b1) (drop b1 args.work.now) ∙ omega (arith, length-drop b1 args.work.now, of, G.1.ends, G.3) in

@@ -4,8 +4,8 @@ use Rattle.search.specs.Search.{ahead}
 use Rattle.runs.proofs.Finds.{Went}
 use Rattle.runs.proofs.next_step.Given as goal
 
-abbrev pub invariant-loop-old : goal.invariant-loop-old
-invariant-loop-old l = Went (board l.m) l.initial.kept l.kept l.work l.initial.frames l.frames l.initial.s l.s
+abbrev pub invariant-loop-kept : goal.invariant-loop-kept
+invariant-loop-kept l = Went (board l.m) l.initial.kept l.kept l.work l.initial.frames l.frames l.initial.s l.s
 
-abbrev pub decreases-loop-old : goal.decreases-loop-old
-decreases-loop-old l = ahead l.work l.s
+abbrev pub decreases-loop-kept : goal.decreases-loop-kept
+decreases-loop-kept l = ahead l.work l.s

@@ -6,7 +6,7 @@ use Rattle.runs.proofs.Outgrown.{ended-says, left-says}
 use Rattle.runs.proofs.run_far.Goals as goal
 
 pub returns-in-Ended : goal.returns-in-Ended
-returns-in-Ended c = ended-says _ _ _ _ _ _ _ _ c.ride-g.ensures _ c.in-Ended.is
+returns-in-Ended c = ended-says _ _ _ _ _ _ _ _ c.ride_within-g.ensures _ c.in-Ended.is
 
 pub returns-in-Left : goal.returns-in-Left
-returns-in-Left c = let o = left-says _ _ _ _ _ _ _ _ c.ride-g.ensures _ c.in-Left.is in absurd (omega (arith, o.short, length-replicate {A = ℕ} 2048 0))
+returns-in-Left c = let o = left-says _ _ _ _ _ _ _ _ c.ride_within-g.ensures _ c.in-Left.is in absurd (omega (arith, o.short, length-replicate {A = ℕ} 2048 0))

@@ -29,7 +29,7 @@ renew_calls-requires c =
     let n = c.with.ensures.count ∙ length-append (opened c.open_list-list.result) _ in
     let k = calls_count (board c.args.m) c.args.kept.now in
     let z = ap length l.entries in
-    (c.put_back.auto.kept ∙ c.requires.0, omega (arith, c.requires.2, c.requires.4), omega (arith, c.requires.2))
+    (c.put_back.auto.kept ∙ c.requires.0, omega (arith, c.requires.2))
 
 pub overflow_mul-old : goal.overflow_mul-old
 overflow_mul-old c = let f = fitting (board c.args.m) (space (board c.args.m) c.args.kept.now) c.args.work.now _ c.args.frames.now c.args.s c.call_out-e.result c.args.o.old c.args.o.next c.requires.5 c.requires.6 (bytes_drop (rows_at (board c.args.m)) c.args.kept.now (λ i. omega (arith, c.slice_known-1.given i))) c.requires.8 c.requires.10 c.call_out-e.ensures in omega (arith, f.fits, c.requires.8, c.requires.7)

@@ -28,24 +28,24 @@ returns-then-plain c =
     let pre = c.requires in
     λ left frames k t h. value-rests (form_of (types_in args.kept.now)) k left args.work.now frames args.s t h pre.2 (sym c.plain.ensures ∙ c.if-plain.true))
 
-pub rows_before-k-requires : goal.rows_before-k-requires
-rows_before-k-requires c =
+pub rows_before-requires : goal.rows_before-requires
+rows_before-requires c =
     let args = c.args in
     let pre = c.requires in
     let w = pre.3 in
     let x = take (length args.work.now - 8 * args.s.r) (drop (8 * args.s.r) args.work.now) in
     here-begins _ w.2.number w.0 args.work.now w.1 args.s w.2.whole w.2.halted pre.2 x (omega (arith, w.3.ends)) refl w.4
 
-pub returns-then-k-gt0 : goal.returns-then-k-gt0
+pub returns-in-Some : goal.returns-in-Some
 unfolding Tells
-returns-then-k-gt0 c =
+returns-in-Some c =
     (
     let args = c.args in
     let pre = c.requires in
     let w = pre.3 in
     let form = form_of (types_in args.kept.now) in
     let x = take (length args.work.now - 8 * args.s.r) (drop (8 * args.s.r) args.work.now) in
-    λ left frames k t h. here-stands form k left args.work.now frames args.s t h pre.2 x (omega (arith, w.3.ends)) refl c.rows_before-k.result (c.rows_before-k.ensures c.if-k-gt0.true form))
+    λ left frames k t h. here-stands form k left args.work.now frames args.s t h pre.2 x (omega (arith, w.3.ends)) refl c.in-Some.k (c.in-Some.ensures.1 form))
 
 pub goes-requires : goal.goes-requires
 goes-requires c =
@@ -65,7 +65,7 @@ returns-then-goes c =
     let w = pre.3 in
     let form = form_of (types_in args.kept.now) in
     let x = take (length args.work.now - 8 * args.s.r) (drop (8 * args.s.r) args.work.now) in
-    let types = lent-types args.kept.now c.types_end-e.result c.types_end-e.ensures pre.0 in
+    let types = c.new.ensures ∙ lent-types args.kept.now c.types_end-e.result c.types_end-e.ensures pre.0 in
     let g = subst (λ (l : List (List ℕ)). Goes (form_of l) (row_table x)) types (c.goes.ensures c.if-goes.true) in
     λ left frames k t h. here-uncounted form k left args.work.now frames args.s t h pre.2 x (omega (arith, w.3.ends)) refl g)
 

@@ -8,7 +8,7 @@ use Rattle.layout.specs.Rows.{board, term_rows}
 use Rattle.meaning.specs.Types.{form_of}
 use Rattle.meaning.specs.Terms.{size, tree_of}
 use Rattle.meaning.specs.Records.{type_count, types_in}
-use Rattle.reduce.specs.Rule.{told, size_if, rule_of}
+use Rattle.reduce.specs.Rule.{size_if, rule_of}
 use Rattle.runs.specs.Sites.{Tells}
 use Rattle.runs.specs.Going.{space}
 use Rattle.runs.proofs.PutBack.{record-long, rows-from}
@@ -217,8 +217,8 @@ types_end-e-requires c =
     let eb = end_below form T.number left W.0 args.frames.now args.s T.whole T.halted pre.2 in
     omega (arith, pre.0, rl, rows-from mb)
 
-pub slice_bounds-count-end : goal.slice_bounds-count-end
-slice_bounds-count-end c =
+pub slice_bounds-new-end : goal.slice_bounds-new-end
+slice_bounds-new-end c =
     let args = c.args in
     let pre = c.requires in
     let W = pre.5 in
@@ -232,8 +232,8 @@ slice_bounds-count-end c =
     let eb = end_below form T.number left W.0 args.frames.now args.s T.whole T.halted pre.2 in
     omega (arith, c.types_end-e.ensures, pre.0, types-fit mb (type_count args.kept.now) pre.1, rl)
 
-pub slice_bounds-count-end-2 : goal.slice_bounds-count-end-2
-slice_bounds-count-end-2 c =
+pub slice_bounds-count-end : goal.slice_bounds-count-end
+slice_bounds-count-end c =
     let args = c.args in
     let pre = c.requires in
     let W = pre.5 in
@@ -247,8 +247,8 @@ slice_bounds-count-end-2 c =
     let eb = end_below form T.number left W.0 args.frames.now args.s T.whole T.halted pre.2 in
     omega (arith, eb, c.row_in-i.ensures, c.rows_at.ensures, pre.0, pre.4, rl)
 
-pub count-o-requires : goal.count-o-requires
-count-o-requires c =
+pub count-requires : goal.count-requires
+count-requires c =
     let args = c.args in
     let pre = c.requires in
     let W = pre.5 in
@@ -268,9 +268,9 @@ count-o-requires c =
     let ex = lent_rows mb args.kept.now p0 (8 * i) (8 * n) c.rows_at.ensures in
     end-redex form T.number left W.0 args.frames.now args.s T.whole T.halted pre.2 i n x ei refl ex l8 T.count T.in-range (omega (arith, pre.3, pre.4))
 
-pub returns-in-Stays : goal.returns-in-Stays
+pub returns-in-None : goal.returns-in-None
 unfolding Tells
-returns-in-Stays c =
+returns-in-None c =
     (
     let args = c.args in
     let pre = c.requires in
@@ -289,13 +289,13 @@ returns-in-Stays c =
     let p0 = c.rows_at.result in
     let x = take (p0 + 8 * i + 8 * n - (p0 + 8 * i)) (drop (p0 + 8 * i) args.kept.now) in
     let ex = lent_rows mb args.kept.now p0 (8 * i) (8 * n) c.rows_at.ensures in
-    let types = lent-types args.kept.now c.types_end-e.result c.types_end-e.ensures (omega (arith, types-fit mb (type_count args.kept.now) pre.1, pre.0, rl)) in
-    let o = c.count-o.ensures ∙ ap (λ (l : List (List ℕ)). size_if (rule_of (form_of l) (tree_of (term_rows x)))) types in
-    λ work k t h. end_stays form k left work args.frames.now args.s t h pre.2 i n x ei refl ex l8 (sym c.is_call.ensures ∙ c.if-is_call.false) (sym (ap told c.in-Stays.is) ∙ o))
+    let types = c.new.ensures ∙ lent-types args.kept.now c.types_end-e.result c.types_end-e.ensures (omega (arith, types-fit mb (type_count args.kept.now) pre.1, pre.0, rl)) in
+    let o = c.count.ensures ∙ ap (λ (l : List (List ℕ)). size_if (rule_of (form_of l) (tree_of (term_rows x)))) types in
+    λ work k t h. end_stays form k left work args.frames.now args.s t h pre.2 i n x ei refl ex l8 (sym c.is_call.ensures ∙ c.if-is_call.false) (sym c.in-None.is ∙ o))
 
-pub returns-in-Goes : goal.returns-in-Goes
+pub returns-in-Some : goal.returns-in-Some
 unfolding Tells
-returns-in-Goes c =
+returns-in-Some c =
     (
     let args = c.args in
     let pre = c.requires in
@@ -314,9 +314,9 @@ returns-in-Goes c =
     let p0 = c.rows_at.result in
     let x = take (p0 + 8 * i + 8 * n - (p0 + 8 * i)) (drop (p0 + 8 * i) args.kept.now) in
     let ex = lent_rows mb args.kept.now p0 (8 * i) (8 * n) c.rows_at.ensures in
-    let types = lent-types args.kept.now c.types_end-e.result c.types_end-e.ensures (omega (arith, types-fit mb (type_count args.kept.now) pre.1, pre.0, rl)) in
-    let o = c.count-o.ensures ∙ ap (λ (l : List (List ℕ)). size_if (rule_of (form_of l) (tree_of (term_rows x)))) types in
+    let types = c.new.ensures ∙ lent-types args.kept.now c.types_end-e.result c.types_end-e.ensures (omega (arith, types-fit mb (type_count args.kept.now) pre.1, pre.0, rl)) in
+    let o = c.count.ensures ∙ ap (λ (l : List (List ℕ)). size_if (rule_of (form_of l) (tree_of (term_rows x)))) types in
     λ work k t h.
     let eo : size h.tree ≡ n = sym (omega (arith, ei, end-size form k left work args.frames.now args.s t h pre.2)) in
-    let (u, g, b) = end_goes form k left work args.frames.now args.s t h pre.2 i n x ei refl ex l8 c.in-Goes.new (sym c.is_call.ensures ∙ c.if-is_call.false) (sym (ap told c.in-Goes.is) ∙ o) in
+    let (u, g, b) = end_goes form k left work args.frames.now args.s t h pre.2 i n x ei refl ex l8 c.in-Some.new (sym c.is_call.ensures ∙ c.if-is_call.false) (sym c.in-Some.is ∙ o) in
     (u, g, turns-anew args.s.here h.tree u n _ eo b))

@@ -7,7 +7,7 @@ use lib.ListN.{length, take, drop}
 use Rattle.layout.specs.Rows.{term_rows}
 use Rattle.meaning.specs.Types.{form_of}
 use Rattle.meaning.specs.Terms.{size, tree_of}
-use Rattle.reduce.specs.Rule.{told, size_if, rule_of}
+use Rattle.reduce.specs.Rule.{size_if, rule_of}
 use Rattle.search.proofs.Tables.{lent_length, lent-tree}
 use Rattle.meaning.specs.Records.{types_in}
 use Rattle.runs.specs.Sites.{Tells}
@@ -46,8 +46,8 @@ overflow_add-b c =
     let q = ap size (lent-tree args.work.now x args.s.r h refl ∙ here-tree _ w.2.number w.0 args.work.now w.1 args.s w.2.whole w.2.halted pre.2) in
     omega (arith, c.end_of-n.ensures, q, pre.1, w.3.ends, here-fits _ w.2.number w.0 args.work.now w.1 args.s w.2.whole w.2.halted pre.2)
 
-pub slice_bounds-count-end-2 : goal.slice_bounds-count-end-2
-slice_bounds-count-end-2 c =
+pub slice_bounds-count-end : goal.slice_bounds-count-end
+slice_bounds-count-end c =
     let args = c.args in
     let pre = c.requires in
     let w = pre.3 in
@@ -56,8 +56,8 @@ slice_bounds-count-end-2 c =
     let q = ap size (lent-tree args.work.now x args.s.r h refl ∙ here-tree _ w.2.number w.0 args.work.now w.1 args.s w.2.whole w.2.halted pre.2) in
     omega (arith, c.end_of-n.ensures, q, pre.1, w.3.ends, here-fits _ w.2.number w.0 args.work.now w.1 args.s w.2.whole w.2.halted pre.2)
 
-pub count-o-requires : goal.count-o-requires
-count-o-requires c =
+pub count-requires : goal.count-requires
+count-requires c =
     let args = c.args in
     let pre = c.requires in
     let w = pre.3 in
@@ -68,9 +68,9 @@ count-o-requires c =
     let z : 8 * args.s.r + 8 * n - 8 * args.s.r ≡ 8 * n = omega arith in
     here-redex _ w.2.number w.0 args.work.now w.1 args.s w.2.whole w.2.halted pre.2 n _ q (ap (λ (i : ℕ). take i (drop (8 * args.s.r) args.work.now)) z) w.3.ends w.2.count w.2.in-range (omega (arith, q, w.4, here-fits _ w.2.number w.0 args.work.now w.1 args.s w.2.whole w.2.halted pre.2))
 
-pub returns-in-Stays : goal.returns-in-Stays
+pub returns-in-None : goal.returns-in-None
 unfolding Tells
-returns-in-Stays c =
+returns-in-None c =
     (
     let args = c.args in
     let pre = c.requires in
@@ -81,17 +81,17 @@ returns-in-Stays c =
     let z : 8 * args.s.r + 8 * n - 8 * args.s.r ≡ 8 * n = omega arith in
     let form = form_of (types_in args.kept.now) in
     let x = take (8 * args.s.r + 8 * n - 8 * args.s.r) (drop (8 * args.s.r) args.work.now) in
-    let types = lent-types args.kept.now c.types_end-e.result c.types_end-e.ensures pre.0 in
-    let o = c.count-o.ensures ∙ ap (λ (l : List (List ℕ)). size_if (rule_of (form_of l) (tree_of (term_rows x)))) types in (
+    let types = c.new.ensures ∙ lent-types args.kept.now c.types_end-e.result c.types_end-e.ensures pre.0 in
+    let o = c.count.ensures ∙ ap (λ (l : List (List ℕ)). size_if (rule_of (form_of l) (tree_of (term_rows x)))) types in (
       λ left frames k t h.
           let q : n ≡ size h.tree = omega (arith, c.end_of-n.ensures, ap size (lent-tree args.work.now y args.s.r g refl ∙ here-tree form k left args.work.now frames args.s t h pre.2)) in
-          here-stays form k left args.work.now frames args.s t h pre.2 n x q (ap (λ (i : ℕ). take i (drop (8 * args.s.r) args.work.now)) z) w.3.ends (sym (ap told c.in-Stays.is) ∙ o),
+          here-stays form k left args.work.now frames args.s t h pre.2 n x q (ap (λ (i : ℕ). take i (drop (8 * args.s.r) args.work.now)) z) w.3.ends (sym c.in-None.is ∙ o),
       stays-not-uncounted,
     ))
 
-pub returns-in-Goes : goal.returns-in-Goes
+pub returns-in-Some : goal.returns-in-Some
 unfolding Tells
-returns-in-Goes c =
+returns-in-Some c =
     (
     let args = c.args in
     let pre = c.requires in
@@ -102,10 +102,10 @@ returns-in-Goes c =
     let z : 8 * args.s.r + 8 * n - 8 * args.s.r ≡ 8 * n = omega arith in
     let form = form_of (types_in args.kept.now) in
     let x = take (8 * args.s.r + 8 * n - 8 * args.s.r) (drop (8 * args.s.r) args.work.now) in
-    let types = lent-types args.kept.now c.types_end-e.result c.types_end-e.ensures pre.0 in
-    let o = c.count-o.ensures ∙ ap (λ (l : List (List ℕ)). size_if (rule_of (form_of l) (tree_of (term_rows x)))) types in (
+    let types = c.new.ensures ∙ lent-types args.kept.now c.types_end-e.result c.types_end-e.ensures pre.0 in
+    let o = c.count.ensures ∙ ap (λ (l : List (List ℕ)). size_if (rule_of (form_of l) (tree_of (term_rows x)))) types in (
       λ left frames k t h.
           let q : n ≡ size h.tree = omega (arith, c.end_of-n.ensures, ap size (lent-tree args.work.now y args.s.r g refl ∙ here-tree form k left args.work.now frames args.s t h pre.2)) in
-          here-turns form k left args.work.now frames args.s t h pre.2 n x q (ap (λ (i : ℕ). take i (drop (8 * args.s.r) args.work.now)) z) w.3.ends c.in-Goes.new (sym (ap told c.in-Goes.is) ∙ o),
+          here-turns form k left args.work.now frames args.s t h pre.2 n x q (ap (λ (i : ℕ). take i (drop (8 * args.s.r) args.work.now)) z) w.3.ends c.in-Some.new (sym c.in-Some.is ∙ o),
       goes-not-uncounted _ _,
     ))

@@ -2,14 +2,8 @@
 use native.Mathlib.Omega.{arith}
 use Rattle.search.specs.declared.Sight.TheVariants.{Skip, Enter}
 use Rattle.search.proofs.Calls.{function-size, function-skipped, argument-waits}
-use Rattle.search.proofs.Moves.{went-nowhere, went_on, skip-on, enter-on, skip-passable, enter-possible}
+use Rattle.search.proofs.Moves.{went_on, skip-on, enter-on, skip-passable, enter-possible}
 use Rattle.search.proofs.enter_calls.Goals as goal
-
-pub loop-left-init : goal.loop-left-init
-loop-left-init c = (went-nowhere c.args.left.now c.args.right.now c.args.frames.now c.args.start c.requires.0, c.requires.2)
-
-pub nested-requires : goal.nested-requires
-nested-requires c = omega (arith, c.loop-left.invariant.0.room.ends, c.loop-left.invariant.0.room.few)
 
 pub enter-s-requires : goal.enter-s-requires
 enter-s-requires c =
@@ -70,12 +64,3 @@ loop-left-preserved c =
       went_on args.left.now p.new.left args.right.now args.frames.now p.new.frames args.start p.result w Skip q.new.left q.new.frames q.result sees h,
       argument-waits loop.left p.new.left args.right.now loop.frames p.new.frames loop.s p.result loop.invariant.0.room y.1 b p.ensures q.new.left q.new.frames q.result g.room q.ensures h.room,
     )
-
-pub shape_of-left : goal.shape_of-left
-shape_of-left c = c.loop-left.invariant.0.left-long
-
-pub shape_of-frames : goal.shape_of-frames
-shape_of-frames c = c.loop-left.invariant.0.frames-long
-
-pub returns : goal.returns
-returns c = record { went = c.loop-left.invariant.0; sees = c.loop-left.invariant.1 }

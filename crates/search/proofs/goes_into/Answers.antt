@@ -1,7 +1,6 @@
 -- A row that waits is entered, but for a zip whose lists are there.
 use Prim.Native.Nat.{◌*◌, ◌-◌, ◌≤◌}
 use mathlib.Core.Path.{refl, ap, sym, ◌∙◌}
-use mathlib.Core.Bool.{false≢true}
 use native.Mathlib.Omega.{arith}
 use lib.ListN.{length, take, drop}
 use borrow.Author.Tests.{not-false}
@@ -12,9 +11,6 @@ use Rattle.meaning.proofs.Trees.Parse.{tree-at-zero}
 use Rattle.search.specs.Frames.{tree_zips_lists}
 use Rattle.search.proofs.Tables.{lent_length, lent-tree}
 use Rattle.search.proofs.goes_into.Goals as goal
-
-pub returns-then-right-from-gt-LONGEST : goal.returns-then-right-from-gt-LONGEST
-returns-then-right-from-gt-LONGEST c = let w = c.waits_at in record { waiting = λ y. sym w.ensures ∙ c.if-waits_at.true; zipping = λ y. absurd (false≢true (sym y)) }
 
 pub zips_lists-requires : goal.zips_lists-requires
 zips_lists-requires c =
@@ -38,8 +34,3 @@ returns-then-waits_at c =
       waiting = λ y. sym w.ensures ∙ c.if-waits_at.true;
       zipping = λ y v. ap tree_zips_lists (sym t) ∙ c.zips_lists.ensures (not-false _ y);
     }
-
-pub returns : goal.returns
-returns c =
-    let w = c.waits_at in
-    record { waiting = λ y. absurd (false≢true y); zipping = λ y v. absurd (false≢true (sym c.if-waits_at.false ∙ w.ensures ∙ v)) }

@@ -2,7 +2,6 @@
 use Prim.Native.Nat.{ℕ, ◌*◌}
 use mathlib.Core.Path.{ap, ◌∙◌}
 use mathlib.Core.List.{List}
-use native.Mathlib.Omega.{arith}
 use Rattle.meaning.specs.Terms.{arity, row_of}
 use Rattle.search.proofs.Sights.{kind-byte, sees-first, sees-later}
 use Rattle.search.proofs.looked_in.Goals as goal
@@ -15,16 +14,6 @@ returns-then-a-o c =
     sees-first args.left.now args.at args.right.now args.r args.o row_at.result.kind children.result c.looks.result
     (kind-byte row_at.result args.left.now (8 * args.at) row_at.ensures) (children.ensures.0 ∙ ap (λ (x : List ℕ). arity (row_of x).head) row_at.ensures)
     c.if-a-o.true c.looks.ensures
-
-pub overflow_sub-a : goal.overflow_sub-a
--- of the row's trees at least those are its own that are to come
-overflow_sub-a c = rw (c.children-a.ensures.0 ∙ ap (λ (x : List ℕ). arity (row_of x).head) c.row_at-f.ensures) c.requires.3
-
-pub bounds-left-at : goal.bounds-left-at
-bounds-left-at c = let h = c.requires.4 (λ q. c.if-a-o.false (c.children-a.ensures.0 ∙ ap (λ (x : List ℕ). arity (row_of x).head) c.row_at-f.ensures ∙ q)) in omega (arith, h)
-
-pub bounds-left-at-2 : goal.bounds-left-at-2
-bounds-left-at-2 c = let h = c.requires.4 (λ q. c.if-a-o.false (c.children-a.ensures.0 ∙ ap (λ (x : List ℕ). arity (row_of x).head) c.row_at-f.ensures ∙ q)) in omega (arith, h)
 
 pub returns : goal.returns
 returns c =

@@ -11,25 +11,15 @@ use Rattle.search.specs.declared.Sight.{Sight}
 use Rattle.search.specs.declared.Sight.TheVariants.{Done, Skip, Enter, Here}
 use Rattle.search.specs.declared.Span.{Span}
 use Rattle.search.proofs.Values.{whole-told}
-use Rattle.search.proofs.Moves.{went-nowhere, somewhere-on, went_then, went_on, skip-on, enter-on, rest-on, whole-on, leave-on, skip-passable, enter-possible, row-there, rest-possible, tree-there, whole-possible, frame-there, leave-possible, stopped-here}
+use Rattle.search.proofs.Moves.{went_then, went_on, skip-on, enter-on, rest-on, whole-on, leave-on, skip-passable, enter-possible, row-there, rest-possible, tree-there, whole-possible, frame-there, leave-possible, stopped-here}
 use Rattle.search.proofs.seek.Goals as goal
-
-pub loop-left-init : goal.loop-left-init
-loop-left-init c = went-nowhere c.args.left.now c.args.right.now c.args.frames.now c.args.start c.requires.0
-
-pub look_ahead-x-requires : goal.look_ahead-x-requires
-look_ahead-x-requires c =
-    let args = c.args in
-    let loop = c.loop-left in
-    let there = c.requires.1 in
-    (loop.invariant.room, somewhere-on args.left.now loop.left args.right.now args.frames.now loop.frames args.start loop.s loop.invariant there)
 
 pub rests_at_end-requires : goal.rests_at_end-requires
 rests_at_end-requires c =
     let args = c.args in
     let loop = c.loop-left in
     let there = c.requires.1 in
-    let sees = subst (λ (x : Sight). Sees x loop.left args.right.now loop.frames loop.s) c.in-Done.is c.look_ahead-x.ensures in
+    let sees = subst (λ (x : Sight). Sees x loop.left args.right.now loop.frames loop.s) c.in-Done.is c.look_ahead.ensures in
     let y = frame-there args.left.now loop.left args.right.now args.frames.now loop.frames args.start loop.s loop.invariant there sees in
     (omega (arith, y.0, loop.invariant.room.rows), omega (arith, y.0, loop.invariant.room.deep), omega (arith, y.1, loop.invariant.room.left-long))
 
@@ -38,7 +28,7 @@ leave-s-requires c =
     let args = c.args in
     let loop = c.loop-left in
     let there = c.requires.1 in
-    let sees = subst (λ (x : Sight). Sees x loop.left args.right.now loop.frames loop.s) c.in-Done.is c.look_ahead-x.ensures in
+    let sees = subst (λ (x : Sight). Sees x loop.left args.right.now loop.frames loop.s) c.in-Done.is c.look_ahead.ensures in
     let b = sym c.rests_at_end.ensures ∙ c.if-rests_at_end.true in
     let deep = ltb-true 1 loop.s.d (first-true _ _ b) in
     let y = leave-possible args.left.now loop.left args.right.now args.frames.now loop.frames args.start loop.s loop.invariant there sees deep (second-true _ _ b) in
@@ -60,25 +50,19 @@ loop-left-preserved-then-rests_at_end c =
     let args = c.args in
     let loop = c.loop-left in
     let there = c.requires.1 in
-    let sees = subst (λ (x : Sight). Sees x loop.left args.right.now loop.frames loop.s) c.in-Done.is c.look_ahead-x.ensures in
+    let sees = subst (λ (x : Sight). Sees x loop.left args.right.now loop.frames loop.s) c.in-Done.is c.look_ahead.ensures in
     let b = sym c.rests_at_end.ensures ∙ c.if-rests_at_end.true in
     let deep = ltb-true 1 loop.s.d (first-true _ _ b) in
     let p = c.leave-s in
     let g = leave-on loop.left args.right.now loop.frames p.new.frames loop.s p.result loop.invariant.room deep (second-true _ _ b) p.ensures in
     went_on args.left.now loop.left args.right.now args.frames.now loop.frames args.start loop.s loop.invariant Done loop.left p.new.frames p.result sees g
 
-pub shape_of-left-else-rests_at_end : goal.shape_of-left-else-rests_at_end
-shape_of-left-else-rests_at_end c = c.loop-left.invariant.left-long
-
-pub shape_of-frames-else-rests_at_end : goal.shape_of-frames-else-rests_at_end
-shape_of-frames-else-rests_at_end c = c.loop-left.invariant.frames-long
-
 pub returns-else-rests_at_end : goal.returns-else-rests_at_end
 returns-else-rests_at_end c =
     let args = c.args in
     let loop = c.loop-left in
     let there = c.requires.1 in
-    let sees = subst (λ (x : Sight). Sees x loop.left args.right.now loop.frames loop.s) c.in-Done.is c.look_ahead-x.ensures in
+    let sees = subst (λ (x : Sight). Sees x loop.left args.right.now loop.frames loop.s) c.in-Done.is c.look_ahead.ensures in
     stopped-here args.left.now loop.left args.right.now args.frames.now loop.frames args.start loop.s loop.invariant false sees
 
 pub rests_here-requires : goal.rests_here-requires
@@ -86,7 +70,7 @@ rests_here-requires c =
     let args = c.args in
     let loop = c.loop-left in
     let there = c.requires.1 in
-    let sees = subst (λ (x : Sight). Sees x loop.left args.right.now loop.frames loop.s) c.in-Here.is c.look_ahead-x.ensures in
+    let sees = subst (λ (x : Sight). Sees x loop.left args.right.now loop.frames loop.s) c.in-Here.is c.look_ahead.ensures in
     (row-there args.left.now loop.left args.right.now args.frames.now loop.frames args.start loop.s loop.invariant there sees, loop.invariant.room.few)
 
 pub pass_by-s-requires : goal.pass_by-s-requires
@@ -94,7 +78,7 @@ pass_by-s-requires c =
     let args = c.args in
     let loop = c.loop-left in
     let there = c.requires.1 in
-    let sees = subst (λ (x : Sight). Sees x loop.left args.right.now loop.frames loop.s) c.in-Here.is c.look_ahead-x.ensures in
+    let sees = subst (λ (x : Sight). Sees x loop.left args.right.now loop.frames loop.s) c.in-Here.is c.look_ahead.ensures in
     let b = sym c.rests_here.ensures ∙ c.if-rests_here.true in
     let y = rest-possible args.left.now loop.left args.right.now args.frames.now loop.frames args.start loop.s loop.invariant there sees (ltb-true 0 loop.s.d (first-true _ _ b)) in
     (loop.invariant.room, y.passable.small, y.passable.inside, y.passable.shallow, y.passable.owes, y.inside)
@@ -104,7 +88,7 @@ loop-left-smaller-then-rests_here c =
     let args = c.args in
     let loop = c.loop-left in
     let there = c.requires.1 in
-    let sees = subst (λ (x : Sight). Sees x loop.left args.right.now loop.frames loop.s) c.in-Here.is c.look_ahead-x.ensures in
+    let sees = subst (λ (x : Sight). Sees x loop.left args.right.now loop.frames loop.s) c.in-Here.is c.look_ahead.ensures in
     let b = sym c.rests_here.ensures ∙ c.if-rests_here.true in
     let y = rest-possible args.left.now loop.left args.right.now args.frames.now loop.frames args.start loop.s loop.invariant there sees (ltb-true 0 loop.s.d (first-true _ _ b)) in
     let p = c.pass_by-s in
@@ -116,25 +100,19 @@ loop-left-preserved-then-rests_here c =
     let args = c.args in
     let loop = c.loop-left in
     let there = c.requires.1 in
-    let sees = subst (λ (x : Sight). Sees x loop.left args.right.now loop.frames loop.s) c.in-Here.is c.look_ahead-x.ensures in
+    let sees = subst (λ (x : Sight). Sees x loop.left args.right.now loop.frames loop.s) c.in-Here.is c.look_ahead.ensures in
     let b = sym c.rests_here.ensures ∙ c.if-rests_here.true in
     let y = rest-possible args.left.now loop.left args.right.now args.frames.now loop.frames args.start loop.s loop.invariant there sees (ltb-true 0 loop.s.d (first-true _ _ b)) in
     let p = c.pass_by-s in
     let g = rest-on loop.left p.new.left args.right.now loop.frames p.new.frames loop.s p.result loop.invariant.room y.passable (second-true _ _ b) p.ensures in
     went_on args.left.now loop.left args.right.now args.frames.now loop.frames args.start loop.s loop.invariant Here p.new.left p.new.frames p.result sees g
 
-pub shape_of-left-else-rests_here : goal.shape_of-left-else-rests_here
-shape_of-left-else-rests_here c = c.loop-left.invariant.left-long
-
-pub shape_of-frames-else-rests_here : goal.shape_of-frames-else-rests_here
-shape_of-frames-else-rests_here c = c.loop-left.invariant.frames-long
-
 pub returns-else-rests_here : goal.returns-else-rests_here
 returns-else-rests_here c =
     let args = c.args in
     let loop = c.loop-left in
     let there = c.requires.1 in
-    let sees = subst (λ (x : Sight). Sees x loop.left args.right.now loop.frames loop.s) c.in-Here.is c.look_ahead-x.ensures in
+    let sees = subst (λ (x : Sight). Sees x loop.left args.right.now loop.frames loop.s) c.in-Here.is c.look_ahead.ensures in
     stopped-here args.left.now loop.left args.right.now args.frames.now loop.frames args.start loop.s loop.invariant true sees
 
 pub pass-s-requires : goal.pass-s-requires
@@ -142,7 +120,7 @@ pass-s-requires c =
     let args = c.args in
     let loop = c.loop-left in
     let there = c.requires.1 in
-    let sees = subst (λ (x : Sight). Sees x loop.left args.right.now loop.frames loop.s) c.in-Skip.is c.look_ahead-x.ensures in
+    let sees = subst (λ (x : Sight). Sees x loop.left args.right.now loop.frames loop.s) c.in-Skip.is c.look_ahead.ensures in
     let y = skip-passable args.left.now loop.left args.right.now args.frames.now loop.frames args.start loop.s loop.invariant there sees in
     (loop.invariant.room, y.small, y.inside, y.shallow, y.owes)
 
@@ -151,7 +129,7 @@ loop-left-smaller-in-Skip c =
     let args = c.args in
     let loop = c.loop-left in
     let there = c.requires.1 in
-    let sees = subst (λ (x : Sight). Sees x loop.left args.right.now loop.frames loop.s) c.in-Skip.is c.look_ahead-x.ensures in
+    let sees = subst (λ (x : Sight). Sees x loop.left args.right.now loop.frames loop.s) c.in-Skip.is c.look_ahead.ensures in
     let y = skip-passable args.left.now loop.left args.right.now args.frames.now loop.frames args.start loop.s loop.invariant there sees in
     let p = c.pass-s in
     let g = skip-on loop.left p.new.left args.right.now loop.frames p.new.frames loop.s p.result loop.invariant.room y p.ensures in
@@ -162,22 +140,14 @@ loop-left-preserved-in-Skip c =
     let args = c.args in
     let loop = c.loop-left in
     let there = c.requires.1 in
-    let sees = subst (λ (x : Sight). Sees x loop.left args.right.now loop.frames loop.s) c.in-Skip.is c.look_ahead-x.ensures in
+    let sees = subst (λ (x : Sight). Sees x loop.left args.right.now loop.frames loop.s) c.in-Skip.is c.look_ahead.ensures in
     let y = skip-passable args.left.now loop.left args.right.now args.frames.now loop.frames args.start loop.s loop.invariant there sees in
     let p = c.pass-s in
     let g = skip-on loop.left p.new.left args.right.now loop.frames p.new.frames loop.s p.result loop.invariant.room y p.ensures in
     went_on args.left.now loop.left args.right.now args.frames.now loop.frames args.start loop.s loop.invariant Skip p.new.left p.new.frames p.result sees g
 
-pub enter_calls-s-requires : goal.enter_calls-s-requires
-enter_calls-s-requires c =
-    let args = c.args in
-    let loop = c.loop-left in
-    let there = c.requires.1 in
-    let sees = subst (λ (x : Sight). Sees x loop.left args.right.now loop.frames loop.s) c.in-Enter.is c.look_ahead-x.ensures in
-    (loop.invariant.room, somewhere-on args.left.now loop.left args.right.now args.frames.now loop.frames args.start loop.s loop.invariant there, sees)
-
-pub value_here-v-requires : goal.value_here-v-requires
-value_here-v-requires c =
+pub value_here-requires : goal.value_here-requires
+value_here-requires c =
     let args = c.args in
     let loop = c.loop-left in
     let there = c.requires.1 in
@@ -201,7 +171,7 @@ wants_here-fine-requires c =
     let s1 = calls.result in
     let sees = calls.ensures.sees in
     let w = went_then args.left.now loop.left left1 args.right.now args.frames.now loop.frames frames1 args.start loop.s s1 loop.invariant calls.ensures.went in
-    let v = whole-told _ _ _ (subst (λ (x : Span). SpansHere x args.right.now s1) c.in-Whole.is c.value_here-v.ensures) in
+    let v = whole-told _ _ _ (subst (λ (x : Span). SpansHere x args.right.now s1) c.in-Whole.is c.value_here.ensures) in
     let y = whole-possible args.left.now left1 args.right.now args.frames.now frames1 args.start s1 w there sees v.0 in
     let some = size-some (tree_here args.right.now s1.r) in
     let room = w.room in
@@ -218,7 +188,7 @@ pass_rows-s-requires c =
     let s1 = calls.result in
     let sees = calls.ensures.sees in
     let w = went_then args.left.now loop.left left1 args.right.now args.frames.now loop.frames frames1 args.start loop.s s1 loop.invariant calls.ensures.went in
-    let v = whole-told _ _ _ (subst (λ (x : Span). SpansHere x args.right.now s1) c.in-Whole.is c.value_here-v.ensures) in
+    let v = whole-told _ _ _ (subst (λ (x : Span). SpansHere x args.right.now s1) c.in-Whole.is c.value_here.ensures) in
     let y = whole-possible args.left.now left1 args.right.now args.frames.now frames1 args.start s1 w there sees v.0 in
     (w.room, v.1, omega (arith, v.1, y.passable.small), y.passable.inside, y.passable.shallow, y.passable.owes)
 
@@ -233,7 +203,7 @@ loop-left-smaller-in-Whole c =
     let s1 = calls.result in
     let sees = calls.ensures.sees in
     let w = went_then args.left.now loop.left left1 args.right.now args.frames.now loop.frames frames1 args.start loop.s s1 loop.invariant calls.ensures.went in
-    let v = whole-told _ _ _ (subst (λ (x : Span). SpansHere x args.right.now s1) c.in-Whole.is c.value_here-v.ensures) in
+    let v = whole-told _ _ _ (subst (λ (x : Span). SpansHere x args.right.now s1) c.in-Whole.is c.value_here.ensures) in
     let y = whole-possible args.left.now left1 args.right.now args.frames.now frames1 args.start s1 w there sees v.0 in
     let p = c.pass_rows-s in
     let q = subst (λ (b : Bool). Passes left1 p.new.left args.right.now frames1 p.new.frames s1 b p.result) c.wants_here-fine.ensures p.ensures in
@@ -251,7 +221,7 @@ loop-left-preserved-in-Whole c =
     let s1 = calls.result in
     let sees = calls.ensures.sees in
     let w = went_then args.left.now loop.left left1 args.right.now args.frames.now loop.frames frames1 args.start loop.s s1 loop.invariant calls.ensures.went in
-    let v = whole-told _ _ _ (subst (λ (x : Span). SpansHere x args.right.now s1) c.in-Whole.is c.value_here-v.ensures) in
+    let v = whole-told _ _ _ (subst (λ (x : Span). SpansHere x args.right.now s1) c.in-Whole.is c.value_here.ensures) in
     let y = whole-possible args.left.now left1 args.right.now args.frames.now frames1 args.start s1 w there sees v.0 in
     let p = c.pass_rows-s in
     let q = subst (λ (b : Bool). Passes left1 p.new.left args.right.now frames1 p.new.frames s1 b p.result) c.wants_here-fine.ensures p.ensures in

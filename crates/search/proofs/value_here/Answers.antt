@@ -26,8 +26,8 @@ bounds-right-r c =
     let args = c.args in
     omega (arith, size-some (tree_here args.right.now args.s.r), c.requires.3)
 
-pub value_rows-x-requires : goal.value_rows-x-requires
-value_rows-x-requires c =
+pub value_rows-requires : goal.value_rows-requires
+value_rows-requires c =
     let args = c.args in
     let pre = c.requires in
     let x = take (length args.right.now - 8 * args.s.r) (drop (8 * args.s.r) args.right.now) in
@@ -42,7 +42,7 @@ returns-in-Whole c =
     let x = take (length args.right.now - 8 * args.s.r) (drop (8 * args.s.r) args.right.now) in
     let h : 8 * args.s.r ≤ length args.right.now = omega (arith, c.requires.0) in
     let t = lent-tree args.right.now x args.s.r h refl in
-    let y = subst (λ (v : Span). Spans v (tree_at (term_rows x) 0)) c.in-Whole.is c.value_rows-x.ensures in
+    let y = subst (λ (v : Span). Spans v (tree_at (term_rows x) 0)) c.in-Whole.is c.value_rows.ensures in
     told_here _ _ args.right.now args.s (omega arith) t y
 
 pub overflow_add-result : goal.overflow_add-result
@@ -52,7 +52,7 @@ overflow_add-result c =
     let x = take (length args.right.now - 8 * args.s.r) (drop (8 * args.s.r) args.right.now) in
     let h : 8 * args.s.r ≤ length args.right.now = omega (arith, pre.0) in
     let t = ap size (lent-tree args.right.now x args.s.r h refl) in
-    let y = subst (λ (v : Span). Spans v (tree_at (term_rows x) 0)) c.in-Part.is c.value_rows-x.ensures in
+    let y = subst (λ (v : Span). Spans v (tree_at (term_rows x) 0)) c.in-Part.is c.value_rows.ensures in
     omega (arith, part-told _ _ y, t, pre.0, pre.1, pre.3)
 
 pub returns-in-Part : goal.returns-in-Part

@@ -21,31 +21,6 @@ row_at-row-requires c =
     let some = owed-some (term_rows a.rows.now) w.i w.owed (omega (arith, c.loop-owed-test.true)) in
     omega (arith, c.requires.1, w.invariant.0)
 
-pub is_part-requires : goal.is_part-requires
-is_part-requires c = tt
-
-pub overflow_sub-owed : goal.overflow_sub-owed
-overflow_sub-owed c = omega (arith, c.loop-owed-test.true)
-
-pub parts_below-requires : goal.parts_below-requires
-parts_below-requires c = tt
-
-pub overflow_add-owed : goal.overflow_add-owed
-overflow_add-owed c =
-    let a = c.args in
-    let p = c.requires in
-    let w = c.loop-owed in
-    let some = owed-some (term_rows a.rows.now) w.i w.owed (omega (arith, c.loop-owed-test.true)) in
-    omega (arith, p.0, p.1, w.invariant.0, w.invariant.2, c.parts_below.ensures.1)
-
-pub overflow_add-i : goal.overflow_add-i
-overflow_add-i c =
-    let a = c.args in
-    let p = c.requires in
-    let w = c.loop-owed in
-    let some = owed-some (term_rows a.rows.now) w.i w.owed (omega (arith, c.loop-owed-test.true)) in
-    omega (arith, p.0, p.1, w.invariant.0)
-
 pub loop-owed-smaller : goal.loop-owed-smaller
 loop-owed-smaller c =
     let a = c.args in
@@ -64,17 +39,17 @@ loop-owed-preserved c =
     let some = owed-some l w.i w.owed z in
     let r = c.row_at-row.result in
     let g = row-in a.rows.now w.i (numbers r) (omega (arith, p.1, w.invariant.0)) c.row_at-row.ensures in
-    let part = part-read r (sym c.is_part.ensures ∙ c.if-is_part.true) in
+    let part = part-read r (sym c.is_part.ensures ∙ c.if-not-is_part.false) in
     let s = owed-step l w.i w.owed z (row_of (numbers r)) g.0 g.1 in
     let v = values-step l w.i w.owed z (row_of (numbers r)) g.0 g.1 part.1 in
-    let e : w.owed - 1 + c.parts_below.result ≡ w.owed - 1 + arity (row_of (numbers r)).head = ap (λ (x : ℕ). w.owed - 1 + x) (c.parts_below.ensures.0 ∙ sym part.0) in (
+    let e : w.owed - 1 + c.parts_below.result ≡ w.owed - 1 + arity (row_of (numbers r)).head = ap (λ (x : ℕ). w.owed - 1 + x) (c.parts_below.ensures.value ∙ sym part.0) in (
       ap (λ (x : ℕ). w.i + 1 + sizes (grove l (w.i + 1) x)) e ∙ sym s ∙ w.invariant.0,
       ap (λ (x : ℕ). values (grove l (w.i + 1) x)) e ∙ sym v ∙ w.invariant.1,
-      omega (arith, w.invariant.2, c.parts_below.ensures.1),
+      omega (arith, w.invariant.2, c.parts_below.ensures.few),
     )
 
-pub returns-else-is_part : goal.returns-else-is_part
-returns-else-is_part c =
+pub returns-then-not-is_part : goal.returns-then-not-is_part
+returns-then-not-is_part c =
     let a = c.args in
     let w = c.loop-owed in
     let some = owed-some (term_rows a.rows.now) w.i w.owed (omega (arith, c.loop-owed-test.true)) in

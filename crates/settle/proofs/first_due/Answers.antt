@@ -1,28 +1,21 @@
--- `settle::first_due` meets its contract: the rows passed stand. Assumes nothing.
-use mathlib.Core.Path.{◌≡◌, sym, ◌∙◌}
-use mathlib.Core.List.{[]}
-use native.Mathlib.Omega.{arith}
+-- `settle::first_due` meets its contract: the row is the first that the test fails.
+use Rattle.std.proofs.Common.{rules, sym, subst, ◌∙◌, ℕ}
+use Rattle.std.specs.Prelude.{Option, unwrap_or, length}
 use Rattle.layout.specs.Rows.{row_table}
-use Rattle.layout.proofs.Tables.{row-table-length, row-table-at}
-use Rattle.settle.proofs.Rows.{stand-more, stand-first}
+use Rattle.layout.proofs.Tables.{row-table-length}
+use Rattle.settle.specs.Settled.{Stands}
+use Rattle.settle.proofs.Rows.{undue, first-stands}
 use Rattle.settle.proofs.first_due.Goals as goal
 
-pub loop-i-init : goal.loop-i-init
-loop-i-init c =
-    let a = c.args in
-    (omega arith, stand-first a.number (row_table a.rows.now))
+pub returns-in-Some : goal.returns-in-Some
+unfolding undue
+returns-in-Some c =
+    let found = c.first_failing.ensures (undue c.args.number) (λ r b fits says. search rules) in
+    subst (λ (o : Option ℕ). Stands c.args.number (row_table c.args.rows.now) (unwrap_or o (length (row_table c.args.rows.now)))) (sym found ∙ c.in-Some.is) (first-stands c.args.number (row_table c.args.rows.now))
 
-pub returns-then-is_due : goal.returns-then-is_due
-returns-then-is_due c = let z = row-table-length c.args.rows.now in record { within = omega arith; same = c.loop-i.invariant.1 }
-
-pub loop-i-preserved : goal.loop-i-preserved
-loop-i-preserved c =
-    let a = c.args in
-    let l = c.loop-i in
-    let z = row-table-length a.rows.now in (omega arith, λ vs. stand-more a.number vs (row_table a.rows.now) l.i [] _ (omega arith) (row-table-at a.rows.now l.i [] (omega arith) ∙ sym c.row_at.ensures) (sym c.is_due.ensures ∙ c.if-is_due.false) (l.invariant.1 vs))
-
-pub returns : goal.returns
-returns c =
-    let l = c.loop-i in
-    let z = row-table-length c.args.rows.now in
-    let e : l.i ≡ c.term_rows-all.result = omega arith in record { within = omega arith; same = rw e at l.invariant.1 }
+pub returns-in-None : goal.returns-in-None
+unfolding undue
+returns-in-None c =
+    let found = c.first_failing.ensures (undue c.args.number) (λ r b fits says. search rules) in
+    subst (Stands c.args.number (row_table c.args.rows.now)) (row-table-length c.args.rows.now ∙ sym c.term_rows.ensures)
+    (subst (λ (o : Option ℕ). Stands c.args.number (row_table c.args.rows.now) (unwrap_or o (length (row_table c.args.rows.now)))) (sym found ∙ c.in-None.is) (first-stands c.args.number (row_table c.args.rows.now)))

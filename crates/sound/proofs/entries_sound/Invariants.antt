@@ -1,5 +1,4 @@
 -- `sound::entries_sound` meets its contract: from entry i on as from the first. Assumes nothing.
-use Prim.Native.Nat.{◌-◌, ◌≤◌}
 use mathlib.Core.Path.{◌≡◌}
 use lib.ListN.{drop}
 use Rattle.meaning.specs.Types.{form_of}
@@ -10,7 +9,4 @@ use Rattle.sound.specs.Ready.{entry_table}
 use Rattle.sound.proofs.entries_sound.Given as goal
 
 abbrev pub invariant-loop-i : goal.invariant-loop-i
-invariant-loop-i l = (l.i ≤ l.all) × (nothing (first_not (entry_sound (form_of (type_table l.types)) l.next) (drop l.i (entry_table l.calls))) ≡ nothing (first_not (entry_sound (form_of (type_table l.types)) l.next) (entry_table l.calls))) × Truthful l.known (form_of (type_table l.types))
-
-abbrev pub decreases-loop-i : goal.decreases-loop-i
-decreases-loop-i l = l.all - l.i
+invariant-loop-i l = (nothing (first_not (entry_sound (form_of (type_table l.types)) l.next) (drop l.i (entry_table l.calls))) ≡ nothing (first_not (entry_sound (form_of (type_table l.types)) l.next) (entry_table l.calls))) × Truthful l.known (form_of (type_table l.types))

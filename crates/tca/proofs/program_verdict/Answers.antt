@@ -1,34 +1,34 @@
 -- Test by test. Assumes nothing.
-use Prim.Native.Nat.{◌/◌}
-use mathlib.Core.Path.{◌≡◌, sym, ap, ◌∙◌}
+use mathlib.Core.Path.{◌≡◌, ap, sym, ◌∙◌}
 use native.Mathlib.Omega.{arith}
 use lib.ListN.{length}
-use Rattle.layout.specs.Rows.{found}
+use Rattle.layout.proofs.Tables.{type-table-length}
 use Rattle.tca.proofs.VerdictLaws.{types_part, types-length, rows-length, bad-type-row, rows_told, none-held, futures-left}
 use Rattle.tca.proofs.program_verdict.Goals as goal
 
-pub bad_type-bad-requires : goal.bad_type-bad-requires
-bad_type-bad-requires c =
+pub bad_type-requires : goal.bad_type-requires
+bad_type-requires c =
     let args = c.args in
     let pre = c.requires in
     let t = types-length args.file.now args.count pre.1 pre.0 in
     let r = rows-length args.file.now args.count pre.1 pre.0 in
     omega (arith, pre.3)
 
-pub returns-in-At : goal.returns-in-At
-returns-in-At c =
+pub returns-in-Some : goal.returns-in-Some
+returns-in-Some c =
     let args = c.args in
     let pre = c.requires in
-    let bad-type = c.bad_type-bad in
-    bad-type-row args.file.now args.count pre.1 pre.0 args.edition pre.2 _ (sym (ap found c.in-At.is) ∙ bad-type.ensures)
+    let bad-type = c.bad_type in
+    bad-type-row args.file.now args.count pre.1 pre.0 args.edition pre.2 _ (sym c.in-Some.is ∙ bad-type.ensures)
 
-pub all_good-seen-requires : goal.all_good-seen-requires
-all_good-seen-requires c =
+pub all_good-requires : goal.all_good-requires
+all_good-requires c =
     let args = c.args in
     let pre = c.requires in
     let t = types-length args.file.now args.count pre.1 pre.0 in
     let r = rows-length args.file.now args.count pre.1 pre.0 in
-    (omega (arith, pre.3), omega (arith, pre.4))
+    let told : length c.new.result ≡ args.count = ap length c.new.ensures ∙ type-table-length (types_part args.file.now args.count) ∙ omega arith in
+    (omega (arith, told, pre.3), omega (arith, pre.4))
 
 pub future_verdict-requires : goal.future_verdict-requires
 future_verdict-requires c =
@@ -38,31 +38,23 @@ future_verdict-requires c =
     let r = rows-length args.file.now args.count pre.1 pre.0 in
     omega (arith, pre.4)
 
-pub returns-then-seen-2 : goal.returns-then-seen-2
-returns-then-seen-2 c =
+pub returns-in-Ok-true : goal.returns-in-Ok-true
+returns-in-Ok-true c =
     let args = c.args in
     let pre = c.requires in
-    let bad-type = c.bad_type-bad in
-    let all-good = c.all_good-seen in
-    let if1 = c.if-seen in
-    let future-verdict = c.future_verdict in
+    let good = c.in-Ok-true.ensures in
     let t = types-length args.file.now args.count pre.1 pre.0 in
-    let r = rows-length args.file.now args.count pre.1 pre.0 in
-    let told : length (types_part args.file.now args.count) / 36 ≡ args.count = omega arith in
-    future-verdict.ensures ∙ futures-left args.edition args.count (types_part args.file.now args.count) _ (sym (rw told at (all-good.ensures.whole if1.true))) (sym (all-good.ensures.typed if1.true)) ∙ rows_told args.file.now args.count pre.1 pre.0 args.edition pre.2 (sym (ap found c.in_default.is) ∙ bad-type.ensures)
+    let told : length c.new.result ≡ args.count = ap length c.new.ensures ∙ type-table-length (types_part args.file.now args.count) ∙ omega arith in
+    c.future_verdict.ensures ∙ futures-left args.edition args.count (types_part args.file.now args.count) _ (sym (rw told at good.whole)) (sym (rw c.new.ensures at good.typed)) ∙ rows_told args.file.now args.count pre.1 pre.0 args.edition pre.2 (sym c.in_default.is ∙ c.bad_type.ensures)
 
-pub returns-then-seen : goal.returns-then-seen
-returns-then-seen c =
+pub returns-in-Ok-false : goal.returns-in-Ok-false
+returns-in-Ok-false c =
     let args = c.args in
     let pre = c.requires in
-    let bad-type = c.bad_type-bad in
-    let all-good = c.all_good-seen in
-    let if2 = c.if-seen-2 in
-    let if1 = c.if-seen in
+    let good = c.in-Ok-false.ensures in
     let t = types-length args.file.now args.count pre.1 pre.0 in
-    let r = rows-length args.file.now args.count pre.1 pre.0 in
-    let told : length (types_part args.file.now args.count) / 36 ≡ args.count = omega arith in
-    none-held _ (sym (all-good.ensures.still if1.true if2.false)) ∙ futures-left args.edition args.count (types_part args.file.now args.count) _ (sym (rw told at (all-good.ensures.whole if1.true))) (sym (all-good.ensures.typed if1.true)) ∙ rows_told args.file.now args.count pre.1 pre.0 args.edition pre.2 (sym (ap found c.in_default.is) ∙ bad-type.ensures)
+    let told : length c.new.result ≡ args.count = ap length c.new.ensures ∙ type-table-length (types_part args.file.now args.count) ∙ omega arith in
+    none-held _ (sym (good.still c.in-Ok-false.field-0-test)) ∙ futures-left args.edition args.count (types_part args.file.now args.count) _ (sym (rw told at good.whole)) (sym (rw c.new.ensures at good.typed)) ∙ rows_told args.file.now args.count pre.1 pre.0 args.edition pre.2 (sym c.in_default.is ∙ c.bad_type.ensures)
 
 pub rows_verdict-requires : goal.rows_verdict-requires
 rows_verdict-requires c =
@@ -72,10 +64,10 @@ rows_verdict-requires c =
     let r = rows-length args.file.now args.count pre.1 pre.0 in
     omega (arith, pre.4)
 
-pub returns : goal.returns
-returns c =
+pub returns-in-Err : goal.returns-in-Err
+returns-in-Err c =
     let args = c.args in
     let pre = c.requires in
-    let bad-type = c.bad_type-bad in
+    let bad-type = c.bad_type in
     let rows-verdict = c.rows_verdict in
-    rows-verdict.ensures ∙ rows_told args.file.now args.count pre.1 pre.0 args.edition pre.2 (sym (ap found c.in_default.is) ∙ bad-type.ensures)
+    rows-verdict.ensures ∙ rows_told args.file.now args.count pre.1 pre.0 args.edition pre.2 (sym c.in_default.is ∙ bad-type.ensures)

@@ -1,11 +1,8 @@
 -- The loop's invariant: as many entries are left to go as the count says, and they lead to the same row.
-use Prim.Native.Nat.{◌-◌, ◌≤◌}
+use Prim.Native.Nat.{◌-◌}
 use mathlib.Core.Path.{◌≡◌}
 use Rattle.terms.specs.Tables.{hop, HopsIn}
 use Rattle.terms.proofs.past.Given as goal
 
 abbrev pub invariant-loop-k : goal.invariant-loop-k
-invariant-loop-k l = (l.k ≤ l.n) × (hop l.ends l.e (l.n - l.k) ≡ hop l.ends l.at l.n) × HopsIn l.ends l.e (l.n - l.k)
-
-abbrev pub decreases-loop-k : goal.decreases-loop-k
-decreases-loop-k l = l.n - l.k
+invariant-loop-k l = (hop l.ends l.e (l.n - l.k) ≡ hop l.ends l.at l.n) × HopsIn l.ends l.e (l.n - l.k)

@@ -1,5 +1,4 @@
 -- `types::ground` meets its contract: by the form; the measure is the type's number. Assumes nothing.
-use Prim.Native.Nat.{◌-◌, ◌≤◌}
 use mathlib.Core.Path.{◌≡◌}
 use lib.ListN.{drop}
 use Rattle.meaning.specs.Types.{types as types_of, parts, form_of, every}
@@ -9,10 +8,7 @@ use Rattle.types.proofs.GroundLaws.{part_ground}
 use Rattle.types.proofs.+ground.Given as goal
 
 abbrev pub invariant-loop-k : goal.invariant-loop-k
-invariant-loop-k l = (l.k ≤ l.n) × (every (part_ground (form_of (type_table l.types)) l.t) (drop l.k (types_of (parts (type_at l.types l.t)))) ≡ every (part_ground (form_of (type_table l.types)) l.t) (types_of (parts (type_at l.types l.t)))) × Truthful l.known (form_of (type_table l.types))
-
-abbrev pub decreases-loop-k : goal.decreases-loop-k
-decreases-loop-k l = l.n - l.k
+invariant-loop-k l = (every (part_ground (form_of (type_table l.types)) l.t) (drop l.k (types_of (parts (type_at l.types l.t)))) ≡ every (part_ground (form_of (type_table l.types)) l.t) (types_of (parts (type_at l.types l.t)))) × Truthful l.known (form_of (type_table l.types))
 
 -- the type's number falls at each call
 abbrev pub decreases-ground : goal.decreases-ground

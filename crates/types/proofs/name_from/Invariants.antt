@@ -1,5 +1,4 @@
 -- `types::name_from` meets its contract: from the j-th name on as from the k-th. Assumes nothing.
-use Prim.Native.Nat.{◌-◌, ◌≤◌}
 use mathlib.Core.Path.{◌≡◌}
 use lib.ListN.{drop}
 use Rattle.meaning.specs.Types.{member}
@@ -7,7 +6,4 @@ use Rattle.types.specs.Table.{type_at, first_names}
 use Rattle.types.proofs.name_from.Given as goal
 
 abbrev pub invariant-loop-j : goal.invariant-loop-j
-invariant-loop-j l = (l.j ≤ l.n) × (member l.x (drop l.j (first_names l.n (type_at l.types l.t))) ≡ member l.x (drop l.k (first_names l.n (type_at l.types l.t))))
-
-abbrev pub decreases-loop-j : goal.decreases-loop-j
-decreases-loop-j l = l.n - l.j
+invariant-loop-j l = member l.x (drop l.j (first_names l.n (type_at l.types l.t))) ≡ member l.x (drop l.k (first_names l.n (type_at l.types l.t)))

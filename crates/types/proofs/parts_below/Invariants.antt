@@ -1,5 +1,4 @@
 -- `types::parts_below` meets its contract: from the k-th type on as from the first. Assumes nothing.
-use Prim.Native.Nat.{◌-◌}
 use mathlib.Core.Path.{◌≡◌}
 use lib.ListN.{drop}
 use Rattle.meaning.specs.Types.{every, below}
@@ -8,6 +7,3 @@ use Rattle.types.proofs.parts_below.Given as goal
 
 abbrev pub invariant-loop-k : goal.invariant-loop-k
 invariant-loop-k l = every (below l.t) (drop l.k (first_types l.n (type_at l.types l.t))) ≡ every (below l.t) (first_types l.n (type_at l.types l.t))
-
-abbrev pub decreases-loop-k : goal.decreases-loop-k
-decreases-loop-k l = l.n - l.k

@@ -3,7 +3,7 @@ use Prim.Native.Nat.{ℕ, ◌%◌}
 use mathlib.Core.Path.{◌≡◌, sym, ap, ◌∙◌}
 use native.Mathlib.Omega.{arith}
 use Rattle.meaning.specs.Typing.{given}
-use mathlib.Core.Option.{Option}
+use Rattle.std.specs.Prelude.{Option}
 use lib.ListN.{get_or}
 use Rattle.quick.specs.Names.{name_in}
 use Rattle.quick.proofs.Chains.{head-own, link-own, scope-head, scope-link, scope-none, own_name}

@@ -1,6 +1,5 @@
 -- The function is due, and arguments by the types that it asks. Assumes nothing.
-use Rattle.rules.specs.Forms.{is_function}
-use mathlib.Core.Path.{ap, sym, ◌∙◌}
+use mathlib.Core.Path.{sym, ◌∙◌}
 use native.Mathlib.Omega.{arith}
 use Rattle.quick.proofs.ByKind.{never}
 use Rattle.quick.proofs.Places.{leaves-call}
@@ -34,10 +33,9 @@ returns c =
     let type_at = c.type_at-a in
     let if2 = c.if-not-is_function in
     let is-function = c.is_function in
-    let form_of = c.form_of in
     let result-of = c.result_of in
     let if3 = c.if-result_of-r in
     let parts-of = c.parts_of in
     let if4 = c.if-parts_of-r in
     let want-parts = c.want_parts in
-    λ z. leaves-call args.types.now args.rows.now _ _ args.p first.result row_at.result.kind row_at.result.n row_at.result.ty row_at.result.word row_at.ensures pre.0 (sym (if1.false) ∙ counted.ensures) type_at.result type_at.ensures (sym (if2.false) ∙ is-function.ensures ∙ ap is_function form_of.ensures) (omega (arith, result-of.ensures, if3.false)) (omega (arith, parts-of.ensures.0, if4.false)) want-parts.ensures.1 want-parts.result want-parts.ensures.0 pre.1.within want-parts.ensures.2 first.ensures
+    λ z. leaves-call args.types.now args.rows.now _ _ args.p first.result row_at.result.kind row_at.result.n row_at.result.ty row_at.result.word row_at.ensures pre.0 (sym (if1.false) ∙ counted.ensures) type_at.result type_at.ensures (sym (if2.false) ∙ is-function.ensures) (omega (arith, result-of.ensures, if3.false)) (omega (arith, parts-of.ensures.0, if4.false)) want-parts.ensures.1 want-parts.result want-parts.ensures.0 pre.1.within want-parts.ensures.2 first.ensures

@@ -1,7 +1,7 @@
 -- The row asks what its child states. Assumes nothing.
 use mathlib.Core.Path.{sym, ap, subst, ◌∙◌}
 use Rattle.meaning.specs.Terms.{kind_no}
-use Rattle.rules.specs.Forms.{FixedKind}
+use Rattle.rules.specs.Forms.{FixedKind, fixed_rule}
 use Rattle.quick.proofs.ByKind.{never}
 use Rattle.quick.proofs.Places.{kind-rule, leaves-one}
 use Rattle.quick.proofs.rows.single.Goals as goal
@@ -16,6 +16,7 @@ fixed_ok-requires c =
     subst FixedKind (sym (ap kind_no row_at.ensures ∙ pre.1.kind)) pre.2.plain.fixed
 
 pub returns-then-fixed_ok : goal.returns-then-fixed_ok
+unfolding fixed_rule
 returns-then-fixed_ok c =
     let args = c.args in
     let first = c.first in

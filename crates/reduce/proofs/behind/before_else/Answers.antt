@@ -1,23 +1,22 @@
 -- By the kind of the condition.
-use mathlib.Core.Path.{sym, ◌∙◌}
+use mathlib.Core.Path.{◌≡◌}
 use native.Mathlib.Omega.{arith}
 use Rattle.layout.specs.Rows.{row_table}
 use Rattle.layout.proofs.Tables.{row-table-length}
+use Rattle.meaning.specs.Terms.{kind_no}
+use Rattle.reduce.specs.Plan.{row_no}
 use Rattle.reduce.proofs.Standing.{if-second, then-inside, else-stands}
 use Rattle.reduce.proofs.behind.before_else.Goals as goal
 
-pub kind_of-k-requires : goal.kind_of-k-requires
-kind_of-k-requires c = if-second (row_table c.args.rows.now) c.requires.0.inside c.requires.1
-
-pub returns-then-k-ne4 : goal.returns-then-k-ne4
-returns-then-k-ne4 c = λ h form. absurd (omega arith)
+pub row_of-requires : goal.row_of-requires
+row_of-requires c = if-second (row_table c.args.rows.now) c.requires.0.inside c.requires.1
 
 pub end_of-requires : goal.end_of-requires
 end_of-requires c =
-    let k = sym c.kind_of-k.ensures ∙ c.if-k-ne4.false in
+    let k : kind_no (row_no (row_table c.args.rows.now) 1) ≡ 4 = grind arith in
     (c.requires.0.few, omega (arith, then-inside (row_table c.args.rows.now) c.requires.0.inside c.requires.1 k, row-table-length c.args.rows.now))
 
-pub returns : goal.returns
-returns c =
-    let k = sym c.kind_of-k.ensures ∙ c.if-k-ne4.false in
-    λ h form. else-stands (row_table c.args.rows.now) c.requires.0.inside c.requires.1 k _ c.end_of.ensures form
+pub returns-then-is : goal.returns-then-is
+returns-then-is c =
+    let k : kind_no (row_no (row_table c.args.rows.now) 1) ≡ 4 = grind arith in
+    (omega arith, else-stands (row_table c.args.rows.now) c.requires.0.inside c.requires.1 k _ c.end_of.ensures)

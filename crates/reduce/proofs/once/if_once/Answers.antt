@@ -2,7 +2,7 @@
 use Rattle.layout.specs.Rows.{row_table}
 use native.Mathlib.Omega.{arith}
 use Rattle.layout.proofs.Tables.{row-table-length}
-use Rattle.reduce.proofs.AtOnce.{then-in, else-in, then-once, unknown-once}
+use Rattle.reduce.proofs.AtOnce.{then-in, else-in, then-once}
 use Rattle.reduce.proofs.once.if_once.Goals as goal
 
 pub end_of-end-requires : goal.end_of-end-requires
@@ -16,12 +16,6 @@ end_of-old-requires c =
     let T = row_table c.args.rows.now in
     let R = c.requires.0 in
     (omega (arith, R.few, row-table-length c.args.rows.now), omega (arith, R.inside, else-in T R.exact R.inside c.requires.1 c.requires.2 _ c.end_of-end.ensures, row-table-length c.args.rows.now))
-
-pub returns-then-term_rows-n : goal.returns-then-term_rows-n
-returns-then-term_rows-n c =
-    let T = row_table c.args.rows.now in
-    let R = c.requires.0 in
-    λ form. unknown-once form T _
 
 pub copy_rows-requires : goal.copy_rows-requires
 copy_rows-requires c =

@@ -1,42 +1,33 @@
 -- By the kind of the function, and by its names.
-use mathlib.Core.Path.{ap, sym, ◌∙◌}
-use Prim.Native.Nat.{ℕ}
-use mathlib.Core.List.{List}
+use Prim.Native.Nat.{ℕ, ◌≤◌}
+use mathlib.Core.Path.{◌≡◌, refl, ap}
+use mathlib.Core.List.{List, [], ◌∷◌, map}
+use native.Mathlib.Omega.{arith}
+use native.Mathlib.Decide.{ℕ_discrete}
 use lib.ListN.{length}
-use Rattle.layout.specs.Rows.{type_table, row_table}
-use Rattle.meaning.specs.Types.{Param, form_of, params}
-use Rattle.meaning.specs.Terms.{kind_no, type_no}
+use Rattle.layout.specs.Rows.{row_table}
+use Rattle.meaning.specs.Types.{Form, Param, form_of, params}
+use Rattle.meaning.specs.Terms.{kind_no, type_no, size, raw, row_of, tree_of}
+use Rattle.reduce.specs.Plan.{row_no, TiesAt, Plans}
+use Rattle.reduce.specs.declared.Plan.TheVariants.{Stays}
 use Rattle.reduce.proofs.Roots.{whole_in}
-use Rattle.reduce.proofs.Bound.{none-bound}
-use Rattle.reduce.proofs.Given.{fix-more, plan-no-function, plan-nameless, plan-tie}
+use Rattle.reduce.proofs.Quiet.{redex-front}
+use Rattle.reduce.proofs.Given.{plan-no-function, plan-nameless}
 use Rattle.reduce.proofs.plans.plan_fix.Goals as goal
 
-pub row_of-c-requires : goal.row_of-c-requires
-row_of-c-requires c =
-    let T = row_table c.args.rows.now in
-    let R = c.requires.0 in
-    fix-more T R.exact (whole_in R.one) c.requires.1
+-- a fix that does not tie stays
+untied : (form : ℕ → Form) (l : List (List ℕ)) → map raw (map row_of l) ≡ l → size (tree_of (map row_of l)) ≤ length l → kind_no (row_no l 0) ≡ 11 → (TiesAt form l → ⊥) → Plans form l Stays
+untied form l exact inside e z = elim (ℕ_discrete (kind_no (row_no l 1)) 6) [ yes q ↦ named q (params (form (type_no (row_no l 1)))) refl | no q ↦ plan-no-function l exact inside e form q ]
+  where
+    named : kind_no (row_no l 1) ≡ 6 → (ps : List Param) → params (form (type_no (row_no l 1))) ≡ ps → Plans form l Stays
+    named q [] p = plan-nameless l exact inside e q form p
+    named q (x ∷ ps) p = absurd (z (e, q, λ n. omega (arith, ap (λ (y : List Param). length y) n, ap (λ (y : List Param). length y) p)))
 
-pub returns-then-k-ne6 : goal.returns-then-k-ne6
-returns-then-k-ne6 c =
-    let T = row_table c.args.rows.now in
-    let R = c.requires.0 in
-    plan-no-function T R.exact (whole_in R.one) c.requires.1 _ (λ q. c.if-k-ne6.true (sym (ap (λ (r : List ℕ). kind_no r) c.row_of-c.ensures) ∙ q))
+pub ties-requires : goal.ties-requires
+ties-requires c = (redex-front c.args.rows.now c.requires.0, c.requires.1)
 
-pub returns-then-param_count-eq0 : goal.returns-then-param_count-eq0
-returns-then-param_count-eq0 c =
-    let T = row_table c.args.rows.now in
-    let R = c.requires.0 in
-    let F = form_of (type_table c.args.types.now) in
-    let k = ap (λ (r : List ℕ). kind_no r) c.row_of-c.ensures ∙ c.if-k-ne6.false in
-    let u = ap (λ (r : List ℕ). type_no r) c.row_of-c.ensures in
-    plan-nameless T R.exact (whole_in R.one) c.requires.1 k F (none-bound _ (ap (λ (t : ℕ). length (params (F t))) u ∙ sym c.param_count.ensures.0 ∙ c.if-param_count-eq0.true))
+pub returns-else-ties : goal.returns-else-ties
+returns-else-ties c = untied (form_of c.args.types.now) (row_table c.args.rows.now) c.requires.0.exact (whole_in c.requires.0.one) c.requires.1 (rw c.if-ties.false at c.ties.ensures)
 
-pub returns : goal.returns
-returns c =
-    let T = row_table c.args.rows.now in
-    let R = c.requires.0 in
-    let F = form_of (type_table c.args.types.now) in
-    let k = ap (λ (r : List ℕ). kind_no r) c.row_of-c.ensures ∙ c.if-k-ne6.false in
-    let u = ap (λ (r : List ℕ). type_no r) c.row_of-c.ensures in
-    plan-tie T R.exact (whole_in R.one) c.requires.1 k F (λ z. c.if-param_count-eq0.false (c.param_count.ensures.0 ∙ sym (ap (λ (t : ℕ). length (params (F t))) u) ∙ ap (λ (ps : List Param). length ps) z))
+pub returns-then-ties : goal.returns-then-ties
+returns-then-ties c = unfold Plans in rw c.if-ties.true at c.ties.ensures

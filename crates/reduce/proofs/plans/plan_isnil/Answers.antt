@@ -1,29 +1,35 @@
 -- By the kind of the list.
-use mathlib.Core.Path.{sym, ◌∙◌}
+use native.Mathlib.Omega.{arith}
 use Rattle.layout.specs.Rows.{row_table}
 use Rattle.reduce.proofs.Kept.{isnil-more, plan-yes, plan-no, plan-unknown}
 use Rattle.reduce.proofs.plans.plan_isnil.Goals as goal
 
-pub kind_of-k-requires : goal.kind_of-k-requires
-kind_of-k-requires c =
+pub kind_at-requires : goal.kind_at-requires
+kind_at-requires c =
     let T = row_table c.args.rows.now in
     let R = c.requires.0 in
     isnil-more T R.exact R.one c.requires.1
 
-pub returns-then-k-eq12 : goal.returns-then-k-eq12
-returns-then-k-eq12 c =
+pub returns-in-Some-Nil : goal.returns-in-Some-Nil
+returns-in-Some-Nil c =
     let T = row_table c.args.rows.now in
     let R = c.requires.0 in
-    λ form. plan-yes T R.exact R.one c.requires.1 form (sym c.kind_of-k.ensures ∙ c.if-k-eq12.true)
+    λ form. plan-yes T R.exact R.one c.requires.1 form (rw c.in-Some-Nil.field-0-is at c.in-Some-Nil.ensures)
 
-pub returns-then-k-eq13 : goal.returns-then-k-eq13
-returns-then-k-eq13 c =
+pub returns-in-Some-Cons : goal.returns-in-Some-Cons
+returns-in-Some-Cons c =
     let T = row_table c.args.rows.now in
     let R = c.requires.0 in
-    λ form. plan-no T R.exact R.one c.requires.1 form (sym c.kind_of-k.ensures ∙ c.if-k-eq13.true)
+    λ form. plan-no T R.exact R.one c.requires.1 form (rw c.in-Some-Cons.field-0-is at c.in-Some-Cons.ensures)
 
-pub returns : goal.returns
-returns c =
+pub returns-in_default : goal.returns-in_default
+returns-in_default c =
     let T = row_table c.args.rows.now in
     let R = c.requires.0 in
-    λ form. plan-unknown T R.exact R.one c.requires.1 form (λ q. c.if-k-eq12.false (c.kind_of-k.ensures ∙ q)) (λ q. c.if-k-eq13.false (c.kind_of-k.ensures ∙ q))
+    λ form. plan-unknown T R.exact R.one c.requires.1 form (λ q. absurd (grind (arith, q))) (λ q. absurd (grind (arith, q)))
+
+pub returns-in_default-2 : goal.returns-in_default-2
+returns-in_default-2 c =
+    let T = row_table c.args.rows.now in
+    let R = c.requires.0 in
+    λ form. plan-unknown T R.exact R.one c.requires.1 form (λ q. absurd (grind (arith, q))) (λ q. absurd (grind (arith, q)))

@@ -11,20 +11,20 @@ use Rattle.reduce.proofs.Roots.{some-row}
 use Rattle.reduce.proofs.Given.{bound-in, let-puts}
 use Rattle.reduce.proofs.puts.let_puts.Goals as goal
 
-pub row_of-r-requires : goal.row_of-r-requires
-row_of-r-requires c =
+pub row_of-name-requires : goal.row_of-name-requires
+row_of-name-requires c =
     let T = row_table c.args.rows.now in
     let R = c.requires.0 in
     some-row T R.inside
 
-pub overflow_cast-w : goal.overflow_cast-w
-overflow_cast-w c =
+pub overflow_cast-name : goal.overflow_cast-name
+overflow_cast-name c =
     let T = row_table c.args.rows.now in
     let R = c.requires.0 in
-    omega (arith, R.name c.requires.1.0, ap (λ (r : List ℕ). word_no r) c.row_of-r.ensures)
+    omega (arith, R.name c.requires.1.0, ap (λ (r : List ℕ). word_no r) c.row_of-name.ensures.row)
 
-pub overflow_cast-b : goal.overflow_cast-b
-overflow_cast-b c =
+pub overflow_cast-result : goal.overflow_cast-result
+overflow_cast-result c =
     let T = row_table c.args.rows.now in
     let R = c.requires.0 in
     let short : length T ≤ 2048 = omega (arith, R.few, row-table-length c.args.rows.now) in
@@ -35,4 +35,4 @@ returns c =
     let T = row_table c.args.rows.now in
     let R = c.requires.0 in
     let short : length T ≤ 2048 = omega (arith, R.few, row-table-length c.args.rows.now) in
-    (λ form. let-puts T R.exact R.inside short c.requires.1.0 c.args.body c.requires.1.1 form _ _ _ _ (sym (ap (λ (r : List ℕ). word_no r) c.row_of-r.ensures)) refl, refl)
+    (λ form. let-puts T R.exact R.inside short c.requires.1.0 c.args.body c.requires.1.1 form _ _ _ _ (sym (ap (λ (r : List ℕ). word_no r) c.row_of-name.ensures.row)) refl, refl)

@@ -1,5 +1,5 @@
--- The loop's invariant: the arguments from row `at` on, k of them, answer as all do.
-use Prim.Native.Nat.{◌+◌, ◌≤◌, ◌<◌}
+-- The loop's invariant: the arguments from row `at` on, those that are left, answer as all do.
+use Prim.Native.Nat.{◌+◌, ◌-◌, ◌≤◌}
 use mathlib.Core.Path.{◌≡◌}
 use mathlib.Core.List.{map}
 use lib.ListN.{length}
@@ -8,8 +8,7 @@ use Rattle.meaning.specs.Terms.{row_of, sizes, grove}
 use Rattle.meaning.specs.Steps.{ready}
 use Rattle.reduce.proofs.zips.lists_from.Given as goal
 
-abbrev pub invariant-loop-k : goal.invariant-loop-k
-invariant-loop-k l = (0 < l.k) × (l.at + sizes (grove (map row_of (row_table l.rows)) l.at l.k) ≤ length (row_table l.rows)) × (ready l.h (grove (map row_of (row_table l.rows)) l.at l.k) ≡ ready l.m (grove (map row_of (row_table l.rows)) l.first l.n))
-
-abbrev pub decreases-loop-k : goal.decreases-loop-k
-decreases-loop-k l = l.k
+abbrev pub invariant-loop-j : goal.invariant-loop-j
+invariant-loop-j l =
+    (l.at + sizes (grove (map row_of (row_table l.rows)) l.at (l.n - l.j + 1)) ≤ length (row_table l.rows))
+    × (ready l.h (grove (map row_of (row_table l.rows)) l.at (l.n - l.j + 1)) ≡ ready l.m (grove (map row_of (row_table l.rows)) l.first l.n))

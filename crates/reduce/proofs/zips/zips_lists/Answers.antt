@@ -1,8 +1,7 @@
 -- By the first two rows, and where the arguments begin.
 use Prim.Native.Nat.{ℕ, ◌+◌}
 use mathlib.Core.Path.{◌≡◌, ap, sym, ◌∙◌}
-use mathlib.Core.Bool.{false≢true}
-use mathlib.Core.List.{List, map}
+use mathlib.Core.List.{map}
 use native.Mathlib.Omega.{arith}
 use Rattle.layout.specs.Rows.{row_table}
 use Rattle.layout.proofs.Tables.{row-table-length}
@@ -13,56 +12,43 @@ use Rattle.reduce.proofs.Roots.{some-row}
 use Rattle.reduce.proofs.Listed.{called_more, called-size, lists-told}
 use Rattle.reduce.proofs.zips.zips_lists.Goals as goal
 
-pub row_of-r-requires : goal.row_of-r-requires
-row_of-r-requires c =
-    let T = row_table c.args.rows.now in
-    let L = map row_of T in
-    some-row T c.requires.1
+pub row_of-call-requires : goal.row_of-call-requires
+row_of-call-requires c = some-row (row_table c.args.rows.now) c.requires.1
 
-pub returns-then-r-ne8 : goal.returns-then-r-ne8
-returns-then-r-ne8 c = λ q. absurd (false≢true q)
-
-pub row_of-c-requires : goal.row_of-c-requires
-row_of-c-requires c =
+pub row_of-zip-requires : goal.row_of-zip-requires
+row_of-zip-requires c =
     let T = row_table c.args.rows.now in
-    let L = map row_of T in
-    let e = ap (λ (x : List ℕ). kind_no x) c.row_of-r.ensures ∙ c.if-r-ne8.false in
+    let e : kind_no (row_no T 0) ≡ 8 = grind arith in
     called_more T c.requires.1 e
-
-pub returns-then-c-ne15 : goal.returns-then-c-ne15
-returns-then-c-ne15 c = λ q. absurd (false≢true q)
 
 pub end_of-requires : goal.end_of-requires
 end_of-requires c =
     let T = row_table c.args.rows.now in
-    let L = map row_of T in
-    let e = ap (λ (x : List ℕ). kind_no x) c.row_of-r.ensures ∙ c.if-r-ne8.false in
+    let e : kind_no (row_no T 0) ≡ 8 = grind arith in
     (c.requires.0, omega (arith, c.requires.1, called-size T c.requires.1 e, row-table-length c.args.rows.now))
 
 pub lists_from-requires : goal.lists_from-requires
 lists_from-requires c =
     let T = row_table c.args.rows.now in
     let L = map row_of T in
-    let e = ap (λ (x : List ℕ). kind_no x) c.row_of-r.ensures ∙ c.if-r-ne8.false in
-    let n = c.row_of-r.result.n in
-    let i : n_no (row_no T 0) ≡ n = ap (λ (x : List ℕ). n_no x) c.row_of-r.ensures in
+    let e : kind_no (row_no T 0) ≡ 8 = grind arith in
+    let n = c.row_of-call.result.n in
+    let i = c.row_of-call.ensures.n in
     let first = c.end_of.result in
     let g : first ≡ 1 + size (tree_at L 1) = c.end_of.ensures in
     let w : first + sizes (grove L first n) ≡ size (tree_of L) = ap (λ (x : ℕ). x + sizes (grove L x n)) g ∙ ap (λ (x : ℕ). 1 + size (tree_at L 1) + sizes (grove L (1 + size (tree_at L 1)) x)) (sym i) ∙ sym (called-size T c.requires.1 e) in
     (c.requires.0, omega (arith, w, c.requires.1))
 
-pub returns : goal.returns
-returns c =
+pub returns-then-is : goal.returns-then-is
+returns-then-is c =
     let T = row_table c.args.rows.now in
     let L = map row_of T in
-    let e = ap (λ (x : List ℕ). kind_no x) c.row_of-r.ensures ∙ c.if-r-ne8.false in
-    let n = c.row_of-r.result.n in
-    let i : n_no (row_no T 0) ≡ n = ap (λ (x : List ℕ). n_no x) c.row_of-r.ensures in
-    let first = c.end_of.result in
-    let g : first ≡ 1 + size (tree_at L 1) = c.end_of.ensures in
-    let m = c.row_of-c.result.n in
-    let k : n_no (row_no T 1) ≡ m = ap (λ (x : List ℕ). n_no x) c.row_of-c.ensures in
-    let q = ap (λ (x : List ℕ). kind_no x) c.row_of-c.ensures ∙ c.if-c-ne15.false in
+    let e : kind_no (row_no T 0) ≡ 8 = grind arith in
+    let q : kind_no (row_no T 1) ≡ 15 = grind arith in
+    let n = c.row_of-call.result.n in
+    let i = c.row_of-call.ensures.n in
+    let g : c.end_of.result ≡ 1 + size (tree_at L 1) = c.end_of.ensures in
+    let m = c.row_of-zip.result.n in
     let r : c.lists_from.result ≡ ready (n_no (row_no T 1)) (grove L (1 + size (tree_at L 1)) (n_no (row_no T 0))) =
-    c.lists_from.ensures ∙ ap (λ (x : ℕ). ready m (grove L x n)) g ∙ ap (λ (x : ℕ). ready m (grove L (1 + size (tree_at L 1)) x)) (sym i) ∙ ap (λ (x : ℕ). ready x (grove L (1 + size (tree_at L 1)) (n_no (row_no T 0)))) (sym k) in
+    c.lists_from.ensures ∙ ap (λ (x : ℕ). ready m (grove L x n)) g ∙ ap (λ (x : ℕ). ready m (grove L (1 + size (tree_at L 1)) x)) (sym i) ∙ ap (λ (x : ℕ). ready x (grove L (1 + size (tree_at L 1)) (n_no (row_no T 0)))) (sym c.row_of-zip.ensures.n) in
     λ b. lists-told T c.requires.1 e q (sym r ∙ b)

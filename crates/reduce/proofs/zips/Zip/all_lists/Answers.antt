@@ -1,0 +1,54 @@
+-- The loop's invariant: the arguments from the j-th on answer as all of them do.
+use mathlib.Core.Path.{◌≡◌, ap, sym, ◌∙◌}
+use native.Mathlib.Omega.{arith}
+use Prim.Native.Nat.{ℕ, ◌-◌}
+use mathlib.Core.List.{map}
+use lib.ListN.{length}
+use Rattle.layout.specs.Rows.{row_table}
+use Rattle.meaning.specs.Terms.{row_of, tree_at, grove}
+use Rattle.meaning.specs.Steps.{ready}
+use Rattle.terms.proofs.Scan.{grove-none, size-some}
+use Rattle.reduce.proofs.Roots.{arg-in, arg-next}
+use Rattle.reduce.proofs.Parted.{bound-next}
+use Rattle.reduce.proofs.Zipped.{ready-next, ready-stop, ready-over}
+use Rattle.reduce.proofs.Zipping.{whole}
+use Rattle.reduce.proofs.zips.Zip.all_lists.Goals as goal
+
+pub loop-j-init : goal.loop-j-init
+loop-j-init c =
+    let a = c.args.self.now in
+    let L = map row_of (row_table a.rows.now) in
+    let z : a.n - 0 ≡ a.n = omega arith in
+    (omega (arith, grove-none L a.first), ap (λ (x : ℕ). ready a.mask (grove L a.first x)) z)
+
+pub ready_at-requires : goal.ready_at-requires
+ready_at-requires c =
+    let a = c.args.self.now in
+    let l = c.loop-j in
+    let L = map row_of (row_table a.rows.now) in
+    let g = arg-in L a.first a.n l.j l.at (length (row_table a.rows.now)) (omega arith) l.invariant.0 (omega (arith, whole _ _ _ _ _ a.reads)) in
+    omega (arith, g, size-some (tree_at L l.at))
+
+pub bounds-self-j : goal.bounds-self-j
+bounds-self-j c = let p = c.args.self.now.reads.places in omega (arith, p.few, p.long)
+
+pub loop-j-preserved : goal.loop-j-preserved
+loop-j-preserved c =
+    let a = c.args.self.now in
+    let l = c.loop-j in
+    let L = map row_of (row_table a.rows.now) in
+    let e = bound-next (row_table a.rows.now) a.first a.n a.bounds a.reads.places l.j l.at _ (omega arith) l.invariant.0 c.wide-at.ensures in
+    (arg-next L a.first l.j l.at _ l.invariant.0 e, sym (ready-next L l.h l.at a.n l.j (omega arith) _ _ e c.ready_at.ensures c.if-not-ready_at.false) ∙ l.invariant.1)
+
+pub returns-then-not-ready_at : goal.returns-then-not-ready_at
+returns-then-not-ready_at c =
+    let a = c.args.self.now in
+    let l = c.loop-j in
+    let L = map row_of (row_table a.rows.now) in
+    sym (sym l.invariant.1 ∙ ready-stop L l.h l.at a.n l.j (omega arith) _ c.ready_at.ensures c.if-not-ready_at.true)
+
+pub returns : goal.returns
+returns c =
+    let a = c.args.self.now in
+    let l = c.loop-j in
+    sym (sym l.invariant.1 ∙ ready-over l.h a.n l.j (map row_of (row_table a.rows.now)) l.at (omega arith))
