@@ -1,5 +1,5 @@
 -- The tables by kind: children, and the ranges of fields. Assumes nothing.
-use Prim.Native.Nat.{ℕ, zero, suc, ◌<◌, ◌≤◌}
+use Prim.Native.Nat.{ℕ, zero, suc, ◌+◌, ◌*◌, ◌/◌, ◌%◌, ◌^◌, ◌<◌, ◌≤◌}
 use mathlib.Core.Path.{◌≡◌, refl, ap, sym, subst}
 use mathlib.Core.Bool.{Bool, true, false, cond}
 use mathlib.Core.List.{List, [], ◌∷◌}
@@ -50,6 +50,36 @@ head-other k n w h =
     refl
 
 -- Children -------------------------------------------------------------------------------------------------------
+
+-- two bits a kind: the children that n does not count
+abbrev counts : ℕ → ℕ
+counts k = 637138964480 / 2 ^ (2 * k) % 4
+
+-- one bit a kind: 1 where n counts children
+abbrev by_n : ℕ → ℕ
+by_n k = 65792 / 2 ^ k % 2
+
+abbrev Counted : ℕ → Type 0
+Counted k = by_n k ≡ 1 → (counts k ≤ 1) × ((n w : ℕ) → counts k + n ≡ arity (head_from k n w))
+
+counted-at : Below Counted 20
+unfolding head_from
+counted-at = ((((((((((((((((((((tt, (λ e. absurd (omega arith))), (λ e. absurd (omega arith))), (λ e. absurd (omega arith))), (λ e. absurd (omega arith))), (λ e. absurd (omega arith))), (λ e. absurd (omega arith))), (λ e. absurd (omega arith))), (λ e. absurd (omega arith))), (λ e. (omega arith, (λ n w. omega arith)))), (λ e. absurd (omega arith))), (λ e. absurd (omega arith))), (λ e. absurd (omega arith))), (λ e. absurd (omega arith))), (λ e. absurd (omega arith))), (λ e. absurd (omega arith))), (λ e. absurd (omega arith))), (λ e. (omega arith, (λ n w. omega arith)))), (λ e. absurd (omega arith))), (λ e. absurd (omega arith))), (λ e. absurd (omega arith)))
+
+-- where n counts children, at most one more stands before them
+pub arity-by-n : (k : ℕ) → k < 20 → Counted k
+arity-by-n k h = below Counted 20 counted-at k h
+
+abbrev Fixed : ℕ → Type 0
+Fixed k = (by_n k ≡ 1 → ⊥) → (n w : ℕ) → counts k ≡ arity (head_from k n w)
+
+fixed-at : Below Fixed 20
+unfolding head_from
+fixed-at = ((((((((((((((((((((tt, (λ e n w. refl)), (λ e n w. refl)), (λ e n w. refl)), (λ e n w. refl)), (λ e n w. refl)), (λ e n w. refl)), (λ e n w. refl)), (λ e n w. refl)), (λ e. absurd (e refl))), (λ e n w. refl)), (λ e n w. refl)), (λ e n w. refl)), (λ e n w. refl)), (λ e n w. refl)), (λ e n w. refl)), (λ e n w. refl)), (λ e. absurd (e refl))), (λ e n w. refl)), (λ e n w. refl)), (λ e n w. refl))
+
+-- where n counts none, the kind alone tells
+pub arity-fixed : (k : ℕ) → k < 20 → Fixed k
+arity-fixed k h = below Fixed 20 fixed-at k h
 
 abbrev Listed : ℕ → Type 0
 Listed k = get_or child_table k 0 < 64 → (n w : ℕ) → get_or child_table k 0 ≡ arity (head_from k n w)
