@@ -65,7 +65,7 @@ module _ (s : List (List ℕ)) (b : List ℕ) (i k n ty w : ℕ) (h : i < length
         (handed-low F l sc i 0 r g.0 g.1 low (inner_of k (get_or sc i 0) (i + 1)) (omega arith)
         (λ p. inner-right F n w ty (get_or sc i 0) i k p (tys (grove l (i + 1) (arity (head_from k n w))))))
 
-stops : (s : List (List ℕ)) (b : List ℕ) (i : ℕ) → i < length b / 8 → (sc : List ℕ) (owed : ℕ) → (owed ≡ 0 → ⊥)
+pub stops : (s : List (List ℕ)) (b : List ℕ) (i : ℕ) → i < length b / 8 → (sc : List ℕ) (owed : ℕ) → (owed ≡ 0 → ⊥)
     → judged (forms s) (around (forms s) (term_rows b) sc i) (tree_at (term_rows b) i) ≡ false → walk (forms
     s) (term_rows b) sc owed i ≡ Some i
 unfolding read

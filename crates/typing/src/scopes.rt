@@ -48,7 +48,8 @@ impl<'a> Tree<'a> {
         if self.types.result_of(c) != r.ty {
             return false;
         }
-        self.same_types(c, self.next(i + 1), r.n as usize)
+        let at = stated::next(self.rows, self.ends, i + 1);
+        stated::same_types(self.types, c, self.rows, self.ends, at, r.n as usize)
     }
 
     // The child is a native function, and its type is as fix asks.
@@ -67,7 +68,8 @@ impl<'a> Tree<'a> {
         ensures { result ≡ judged (forms self.now.types.now) empty (tree_at (term_rows self.now.rows.now) i) }
     {
         let r = layout::row_at(self.rows, i);
-        self.types.is(r.ty, Form::Tuple) && self.same_types(r.ty, i + 1, r.n as usize)
+        self.types.is(r.ty, Form::Tuple)
+            && stated::same_types(self.types, r.ty, self.rows, self.ends, i + 1, r.n as usize)
     }
 
     // A row of a fixed kind, by what its first three children state.
@@ -77,8 +79,8 @@ impl<'a> Tree<'a> {
     {
         let r = layout::row_at(self.rows, i);
         let p = i + 1;
-        let q = self.next(p);
-        let s = self.next(q);
+        let q = stated::next(self.rows, self.ends, p);
+        let s = stated::next(self.rows, self.ends, q);
         let a = stated::type_at(self.rows, p);
         let b = stated::type_at(self.rows, q);
         let c = stated::type_at(self.rows, s);

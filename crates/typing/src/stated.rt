@@ -7,10 +7,10 @@ ghost use Rattle.meaning.specs.Types.{same_numbers};
 ghost use Rattle.meaning.specs.Terms.{is, ty_of, sizes, tree_at, grove};
 ghost use Rattle.meaning.specs.Typing.{list, tys};
 ghost use Rattle.layout.specs.Forms.{says, part_types};
-ghost use Rattle.typing.specs.Scope.{behind};
+ghost use Rattle.typing.specs.Scope.{behind, Ready};
 
-use crate::tree::Tree;
 use layout::kinds::Kind;
+use layout::views::Types;
 
 // The type that the tree at row p states.
 pub fn type_at(rows: &[u8], p: usize) -> u16
@@ -30,34 +30,33 @@ pub fn is_native(rows: &[u8], p: usize) -> bool
     p < layout::term_rows(rows) && layout::row_at(rows, p).is(Kind::Native)
 }
 
-impl<'a> Tree<'a> {
-    // The row behind the tree at row p.
-    pub fn next(&self, p: usize) -> usize
-        ensures { result ≡ behind self.now.ends.now (length self.now.rows.now / 8) p }
-    {
-        if p < layout::term_rows(self.rows) {
-            layout::wide(self.ends[p])
-        } else {
-            p
-        }
+// The row behind the tree at row p.
+pub fn next(rows: &[u8], ends: &[u16], p: usize) -> usize
+    requires { length rows.now / 8 ≤ length ends.now }
+    ensures { result ≡ behind ends.now (length rows.now / 8) p }
+{
+    if p < layout::term_rows(rows) {
+        layout::wide(ends[p])
+    } else {
+        p
     }
+}
 
-    // Whether the n trees from row `at` on state the types of the parts of t.
-    #[tactic(auto, using(crate::proofs::ByRow::types_alike))]
-    pub fn same_types(&self, t: u16, at: usize, n: usize) -> bool
-        requires { at + sizes (grove (term_rows self.now.rows.now) at n) ≤ length self.now.rows.now / 8 }
-        ensures { result ≡ same_numbers (list (tys (grove (term_rows self.now.rows.now) at n))) (part_types (says self.now.types.now t)) }
-    {
-        if self.types.parts_of(t) != n {
+// Whether the n trees from row `at` on state the types of the parts of t.
+#[tactic(auto, using(crate::proofs::ByRow::types_alike))]
+pub fn same_types(types: &Types, t: u16, rows: &[u8], ends: &[u16], at: usize, n: usize) -> bool
+    requires { Ready rows.now ends.now × (at + sizes (grove (term_rows rows.now) at n) ≤ length rows.now / 8) }
+    ensures { result ≡ same_numbers (list (tys (grove (term_rows rows.now) at n))) (part_types (says types.now t)) }
+{
+    if types.parts_of(t) != n {
+        return false;
+    }
+    let mut p = at;
+    for k in 0..n {
+        if type_at(rows, p) != types.type_of(t, k) {
             return false;
         }
-        let mut p = at;
-        for k in 0..n {
-            if type_at(self.rows, p) != self.types.type_of(t, k) {
-                return false;
-            }
-            p = self.next(p);
-        }
-        true
+        p = next(rows, ends, p);
     }
+    true
 }
