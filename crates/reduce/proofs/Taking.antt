@@ -4,7 +4,7 @@ use mathlib.Core.Path.{◌≡◌, refl, sym, ◌∙◌, subst}
 use mathlib.Core.Bool.{Bool, true, false, false≢true}
 use mathlib.Core.List.{List, [], ◌∷◌, ◌++◌, append_assoc, append-nil}
 use native.Mathlib.Omega.{arith}
-use lib.ListN.{length, set, length-append}
+use lib.ListN.{length, take, set, length-append}
 use Rattle.put.specs.Put.{standing}
 use Rattle.put.proofs.Loops.{standing-length}
 use Rattle.reduce.specs.Taking.{Takes}
@@ -13,6 +13,10 @@ use Rattle.reduce.proofs.Filled.{filled_row}
 -- a row that is written to a table of its own
 pub one-standing : (x y : List (List ℕ)) (r : List ℕ) → 0 < length x → y ≡ set x 0 r → standing y 0 1 ≡ r ∷ []
 one-standing x y r h e = filled_row x y [] 0 r refl h e
+
+-- rows behind the first w of a table
+pub behind-front : (D X : List (List ℕ)) (w n w' : ℕ) {y : List (List ℕ)} → length X ≡ n → length (take w D) ≡ w → w' ≡ length (take w D ++ X) → y ≡ take w D ++ X → (w' ≡ w + n) × (y ≡ take w D ++ X)
+behind-front D X w n w' e s h q = (omega (arith, e, s, h, length-append (take w D) X), q)
 
 module _ {S : Type 0} (holds : S → List (List ℕ) → Type 0) (room loan : S → ℕ) where
   pub takes-none : (s : S) → Takes holds room loan s s true []

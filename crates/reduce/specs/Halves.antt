@@ -8,6 +8,7 @@ use Rattle.meaning.specs.Terms.{Forest, kind_no, n_no, size, flat, flats, sizes,
 use Rattle.meaning.specs.Steps.{kid, ready, any_nil, kids_at}
 use Rattle.put.specs.Put.{standing}
 use Rattle.put.specs.declared.Span.{Span}
+use Rattle.reduce.specs.declared.zips.Half.{Half}
 
 -- heads are the first trees of the masked arguments, tails the second
 abbrev pub which_half : Bool → ℕ
@@ -21,17 +22,16 @@ half_of l first n m tails = map raw (flats (kids_at (which_half tails) m (grove 
 abbrev pub arguments : List ℕ → ℕ → (n : ℕ) → Forest n
 arguments rows first n = grove (map row_of (row_table rows)) first n
 
--- those that are masked are cons
-pub record AllCons (rows : List ℕ) (first n m : ℕ) : Type 0 where
-  pub lists : ready m (arguments rows first n) ≡ true
-  pub full : any_nil m (arguments rows first n) ≡ false
-
 -- the arguments end within the rows, and those that are masked are cons
 pub record Halves (l : List (List ℕ)) (first n m : ℕ) : Type 0 where
   pub few : n ≤ 255
   pub inside : first + sizes (grove (map row_of l) first n) ≤ length l
   pub lists : ready m (grove (map row_of l) first n) ≡ true
   pub full : any_nil m (grove (map row_of l) first n) ≡ false
+
+-- one side of what a call of a zip makes: its function's rows from one row on, its arguments from another
+abbrev pub half_from : List (List ℕ) → ℕ → ℕ → Bool → Half
+half_from l from first tails = record { from = from; first = first; n = n_no (row_no l 0); mask = n_no (row_no l 1); tails = tails }
 
 -- where each argument begins, and where the last ends
 pub record BoundsAt (l : List (List ℕ)) (first n : ℕ) (bounds : List ℕ) : Type 0 where

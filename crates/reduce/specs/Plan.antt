@@ -1,10 +1,10 @@
 -- What a rule makes, told by rows: which rows are kept, which are new, and where they stand. Assumes nothing.
-use Rattle.std.specs.Prelude.{ℕ, ◌+◌, ◌≤◌, ◌≡◌, List, [], ◌∷◌, ◌++◌, map, length, get_or}
+use Rattle.std.specs.Prelude.{ℕ, ◌+◌, ◌≤◌, ◌≡◌, true, false, List, [], ◌∷◌, ◌++◌, map, length, get_or}
 use Rattle.std.specs.Prelude.{Option, None, Some}
 use Rattle.layout.specs.Kinds.{number_of}
 use Rattle.meaning.specs.Types.{Form, params, elem_of}
-use Rattle.meaning.specs.Terms.{Tree, flat, flats, size, raw, row_of, kind_no, n_no, type_no, tree_of, tree_at, grove}
-use Rattle.meaning.specs.Steps.{kids_at}
+use Rattle.meaning.specs.Terms.{Tree, flat, flats, size, sizes, raw, row_of, kind_no, n_no, type_no, tree_of, tree_at, grove}
+use Rattle.meaning.specs.Steps.{ready, any_nil, kids_at}
 use Rattle.put.specs.Put.{standing}
 use Rattle.reduce.specs.Rule.{rule_of}
 use Rattle.reduce.specs.declared.Plan.{Plan}
@@ -32,6 +32,13 @@ CallsAt l first = (kind_no (row_no l 0) ≡ 8) × (kind_no (row_no l 1) ≡ 6) �
 -- a zip whose arguments stand from a row on
 abbrev pub ZipsFrom : List (List ℕ) → ℕ → Type 0
 ZipsFrom l first = (kind_no (row_no l 0) ≡ 8) × (kind_no (row_no l 1) ≡ 15) × (first ≡ 1 + size (tree_at (map row_of l) 1))
+
+-- a zip of cons, whose arguments stand from a row on
+pub record ZipsAt (l : List (List ℕ)) (first : ℕ) : Type 0 where
+  pub behind : 2 ≤ first
+  pub whole : first + sizes (grove (map row_of l) first (n_no (row_no l 0))) ≡ length l
+  pub lists : ready (n_no (row_no l 1)) (grove (map row_of l) first (n_no (row_no l 0))) ≡ true
+  pub full : any_nil (n_no (row_no l 1)) (grove (map row_of l) first (n_no (row_no l 0))) ≡ false
 
 module _ (form : ℕ → Form) (l : List (List ℕ)) where
   -- "List project of a cons gives a cons of the projected head and the list-projected tail": the head stands from row 2, the tail from row `tail`

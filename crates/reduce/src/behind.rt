@@ -9,7 +9,7 @@ use crate::places;
 use layout::kinds::Kind;
 
 // Of a call of a native function without arguments: its body stands behind two rows.
-fn before_body(rows: &[u8]) -> Option<usize>
+pub fn before_body(rows: &[u8]) -> Option<usize>
     requires { Begins rows.now × (kind_no (row_no (row_table rows.now) 0) ≡ 8) }
     ensures { IfSome result (EndStands rows.now) }
 {
@@ -20,7 +20,7 @@ fn before_body(rows: &[u8]) -> Option<usize>
 }
 
 // "when the child is true or false": of false, the last tree.
-fn before_else(rows: &[u8]) -> Option<usize>
+pub fn before_else(rows: &[u8]) -> Option<usize>
     requires { Begins rows.now × (kind_no (row_no (row_table rows.now) 0) ≡ 10) }
     ensures { IfSome result (EndStands rows.now) }
 {
@@ -31,7 +31,7 @@ fn before_else(rows: &[u8]) -> Option<usize>
 }
 
 // Of a tuple, its last element.
-fn before_last(rows: &[u8]) -> Option<usize>
+pub fn before_last(rows: &[u8]) -> Option<usize>
     requires { Begins rows.now × (kind_no (row_no (row_table rows.now) 0) ≡ 17) }
     ensures { IfSome result (EndStands rows.now) }
 {

@@ -19,7 +19,6 @@ ghost use Rattle.put.specs.Put.{standing};
 
 use layout::kinds::Kind;
 use layout::views::Types;
-use zips::Zip;
 
 // What the rule of the first row makes.
 #[derive(Clone, Copy)]
@@ -74,7 +73,7 @@ pub fn count(types: &Types, rows: &[u8]) -> Option<usize>
             puts::call_puts(types, rows, first),
         )),
         Plan::Tie => Some(puts::count_tie(types, rows)),
-        Plan::Zip(first) => Zip::of(rows, first).count(types),
+        Plan::Zip(first) => zips::count_zip(rows, first),
     }
 }
 
@@ -102,6 +101,6 @@ pub fn reduce(types: &Types, rows: &[u8], to: &mut [u8])
             puts::write_puts(types, rows, puts::call_puts(types, rows, first), to);
         }
         Plan::Tie => puts::write_tie(types, rows, to),
-        Plan::Zip(first) => Zip::of(rows, first).write(types, to),
+        Plan::Zip(first) => zips::write_zip(types, rows, first, to),
     }
 }

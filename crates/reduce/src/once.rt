@@ -9,8 +9,7 @@ ghost use Rattle.reduce.specs.Plan.{row_no, TiesAt};
 ghost use Rattle.reduce.specs.Once.{MadeAtOnce, Goes, Applies};
 ghost use Rattle.reduce.specs.Lists.{tree_zips};
 
-use crate::zips::Zip;
-use crate::{places, puts};
+use crate::{places, puts, zips};
 use layout::kinds::Kind;
 use layout::views::Types;
 use put::{Made, Span};
@@ -112,7 +111,7 @@ pub fn zip_once(types: &Types, rows: &[u8], to: &mut [u8]) -> Option<Made>
     let mut bounds = [0u16; 9];
     puts::fill_bounds::<true>(rows, first, n, &mut bounds);
     let e = layout::TERM_ROW * layout::wide(bounds[n]);
-    Zip::new(&rows[..e], first, bounds).make(types, to)
+    zips::make_zip(types, &rows[..e], first, &bounds, to)
 }
 
 // Whether the rows begin with a call of a zip.

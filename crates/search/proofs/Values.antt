@@ -69,7 +69,7 @@ module _ (form : ℕ → Form) (k u : ℕ) where
 
 -- The rows that are parts of values ------------------------------------------------------------------------------
 
-no_part : (k : ℕ) → 16 < k → member k part_kinds ≡ false
+pub no_part : (k : ℕ) → 16 < k → member k part_kinds ≡ false
 unfolding member
 no_part k h = rw (ne_eqb k 1 (omega arith), ne_eqb k 2 (omega arith), ne_eqb k 3 (omega arith), ne_eqb k 4 (omega arith), ne_eqb k 7 (omega arith), ne_eqb k 12 (omega arith), ne_eqb k 13 (omega arith), ne_eqb k 16 (omega arith)) refl
 

@@ -83,12 +83,12 @@ count_tie-requires c =
     let q = subst (Plans F T) c.in-Tie.is c.plan_of.ensures in
     (c.requires, tie-of F T q)
 
-pub of-requires : goal.of-requires
-of-requires c =
+pub count_zip-requires : goal.count_zip-requires
+count_zip-requires c =
     let T = row_table c.args.rows.now in
     let F = form_of c.args.types.now in
     let q = subst (Plans F T) c.in-Zip.is c.plan_of.ensures in
     (c.requires, zip-of F T _ q)
 
 pub returns-in-Zip : goal.returns-in-Zip
-returns-in-Zip c = rw c.of.ensures at c.count.ensures
+returns-in-Zip c = c.count_zip.ensures (form_of c.args.types.now)

@@ -128,15 +128,9 @@ write_tie-requires c =
     let q = subst (Plans F T) c.in-Tie.is c.plan_of.ensures in
     (c.requires.0, tie-of F T q, c.requires.2)
 
-pub of-requires : goal.of-requires
-of-requires c =
+pub write_zip-requires : goal.write_zip-requires
+write_zip-requires c =
     let T = row_table c.args.rows.now in
     let F = form_of c.args.types.now in
     let q = subst (Plans F T) c.in-Zip.is c.plan_of.ensures in
-    (c.requires.0, zip-of F T _ q)
-
-pub write-requires : goal.write-requires
-write-requires c = rw c.of.ensures (c.requires.1, c.requires.2)
-
-pub returns-in-Zip : goal.returns-in-Zip
-returns-in-Zip c = rw c.of.ensures at c.write.ensures
+    (c.requires.0, zip-of F T _ q, c.requires.1, c.requires.2)

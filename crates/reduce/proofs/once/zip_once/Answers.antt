@@ -53,8 +53,8 @@ overflow_mul-e c =
     let old : c.wide-e.result ≡ size (tree_of L) = c.wide-e.ensures ∙ c.fill_bounds.ensures n (omega arith) ∙ w in
     record { fits = omega (arith, old, R.inside, R.few) }
 
-pub slice_bounds-new-end : goal.slice_bounds-new-end
-slice_bounds-new-end c =
+pub slice_bounds-make_zip-end : goal.slice_bounds-make_zip-end
+slice_bounds-make_zip-end c =
     let T = row_table c.args.rows.now in
     let L = map row_of T in
     let R = c.requires.0 in
@@ -66,8 +66,8 @@ slice_bounds-new-end c =
     let old : c.wide-e.result ≡ size (tree_of L) = c.wide-e.ensures ∙ c.fill_bounds.ensures n (omega arith) ∙ w in
     sym (length-take-le (8 * c.wide-e.result) c.args.rows.now (omega (arith, old, R.inside, row-table-length c.args.rows.now)))
 
-pub new-requires : goal.new-requires
-new-requires c =
+pub make_zip-requires : goal.make_zip-requires
+make_zip-requires c =
     let T = row_table c.args.rows.now in
     let L = map row_of T in
     let R = c.requires.0 in
@@ -92,4 +92,4 @@ returns c =
     let g : first ≡ 1 + size (tree_at L 1) = c.end_of-first.ensures in
     let w : first + sizes (grove L first n) ≡ size (tree_of L) = ap (λ (x : ℕ). x + sizes (grove L x n)) g ∙ ap (λ (x : ℕ). 1 + size (tree_at L 1) + sizes (grove L (1 + size (tree_at L 1)) x)) (sym i) ∙ sym (called-size T R.inside c.requires.1) in
     let old : c.wide-e.result ≡ size (tree_of L) = c.wide-e.ensures ∙ c.fill_bounds.ensures n (omega arith) ∙ w in
-    cut-made c.args.rows.now R c.wide-e.result _ old refl (form_of c.args.types.now) _ _ (rw c.new.ensures at c.make.ensures)
+    cut-made c.args.rows.now R c.wide-e.result _ old refl (form_of c.args.types.now) _ _ c.make_zip.ensures

@@ -17,7 +17,7 @@ made-requires-clause-lists c = lists-if _ _ _ _ _ c.args.self.now.reads (form_of
 
 pub returns : goal.returns
 returns c =
-    let (x, r, s, t) = c.made.ensures in
+    let (x, r, t) = c.made.ensures in
     let same = rows_told _ x r in
     let many : length (row_table c.args.to.now) ≡ length x = omega (arith, c.requires.1, ap (λ (y : List (List ℕ)). length y) same, row-table-length c.args.to.now) in
     let h = t.taken (t.fits (omega (arith, many))) [] (refl, omega arith, refl) in

@@ -5,10 +5,9 @@ use mathlib.Core.List.{map}
 use Rattle.layout.specs.Rows.{row_table}
 use Rattle.meaning.specs.Terms.{row_of, sizes, grove}
 use Rattle.meaning.specs.Steps.{ready}
-use Rattle.reduce.specs.Halves.{arguments}
-use Rattle.reduce.proofs.zips.Zip.all_lists.Given as goal
+use Rattle.reduce.proofs.zips.all_lists.Given as goal
 
 abbrev pub invariant-loop-j : goal.invariant-loop-j
 invariant-loop-j l =
-    (l.at ≡ l.self.first + sizes (arguments l.self.rows.now l.self.first l.j))
-    × (ready l.h (grove (map row_of (row_table l.self.rows.now)) l.at (l.self.n - l.j)) ≡ ready l.self.mask (arguments l.self.rows.now l.self.first l.self.n))
+    (l.at ≡ l.first + sizes (grove (map row_of (row_table l.rows)) l.first l.j))
+    × (ready l.left (grove (map row_of (row_table l.rows)) l.at (l.n - l.j)) ≡ ready l.m (grove (map row_of (row_table l.rows)) l.first l.n))

@@ -9,24 +9,23 @@ use Rattle.put.specs.Put.{standing}
 use Rattle.reduce.specs.Taking.{Takes}
 use Rattle.reduce.proofs.Parted.{bound-next, going_start, left-start, left_end, going-in, going-cons, going_next, left-next}
 use Rattle.reduce.proofs.Taking.{takes-none, span-takes, takes-next, takes-fail}
-use Rattle.reduce.proofs.Zipping.{halves}
-use Rattle.reduce.proofs.zips.Zip.half.Goals as goal
+use Rattle.reduce.proofs.zips.take_half.Goals as goal
 
 pub loop-j-init : goal.loop-j-init
 loop-j-init g c =
-    let a = c.args.self.now in
-    (going_start (row_table a.rows.now) a.first a.n a.mask (halves _ _ _ _ _ a.reads c.requires.cons), ([], takes-none _ _ _ _, left-start (row_table a.rows.now) a.first a.n a.mask c.args.tails))
+    let z = c.args.z in
+    (going_start (row_table c.args.rows.now) z.first z.n z.mask c.requires.halves.1, ([], takes-none _ _ _ _, left-start (row_table c.args.rows.now) z.first z.n z.mask z.tails))
 
-pub bounds-self-j : goal.bounds-self-j
-bounds-self-j g c = let p = c.args.self.now.reads.places in omega (arith, p.few, p.long)
+pub bounds-bounds-j : goal.bounds-bounds-j
+bounds-bounds-j g c = let p = c.requires.halves.2 in omega (arith, p.few, p.long)
 
 pub half_at-s-requires : goal.half_at-s-requires
 half_at-s-requires g c =
-    let a = c.args.self.now in
+    let z = c.args.z in
     let l = c.loop-j in
-    let D = halves _ _ _ _ _ a.reads c.requires.cons in
-    let e = bound-next (row_table a.rows.now) a.first a.n a.bounds a.reads.places l.j l.at _ (omega arith) l.invariant.0.place c.wide-e.ensures in
-    (a.reads.redex, e, going-in D l.invariant.0 (omega arith), going-cons D l.invariant.0 (omega arith))
+    let D = c.requires.halves.1 in
+    let e = bound-next (row_table c.args.rows.now) z.first z.n c.args.bounds.now c.requires.halves.2 l.j l.at _ (omega arith) l.invariant.0.place c.wide-e.ensures in
+    (c.requires.halves.0, e, going-in D l.invariant.0 (omega arith), going-cons D l.invariant.0 (omega arith))
 
 pub take-requires-clause-open : goal.take-requires-clause-open
 take-requires-clause-open g c =
@@ -39,14 +38,14 @@ take-requires-clause-span g c = let h = c.half_at-s.ensures in (h.low_end, h.hig
 
 pub returns-then-not-take : goal.returns-then-not-take
 returns-then-not-take g c =
-    let a = c.args.self.now in
-    let T = row_table a.rows.now in
+    let z = c.args.z in
+    let T = row_table c.args.rows.now in
     let l = c.loop-j in
-    let D = halves _ _ _ _ _ a.reads c.requires.cons in
+    let D = c.requires.halves.1 in
     let h = c.half_at-s.ensures in
     let s = c.half_at-s.result in
     let (y, t, q) = l.invariant.1 in
-    let e = bound-next T a.first a.n a.bounds a.reads.places l.j l.at _ (omega arith) l.invariant.0.place c.wide-e.ensures in
+    let e = bound-next T z.first z.n c.args.bounds.now c.requires.halves.2 l.j l.at _ (omega arith) l.invariant.0.place c.wide-e.ensures in
     let k = c.take.ensures in
     let u = takes-next _ _ _ _ _ _ y (standing T s.from s.to) t c.requires.open _ _ refl (span-takes _ _ _ _ _ _ T s.from s.to h.low_end h.high_end k.taken k.room k.same_loan) in
     subst (λ (x : List (List ℕ)). Takes g.S.Sink.holds g.S.Sink.room g.S.Sink.loan c.args.sink.now c.take.new.self false x)
@@ -55,14 +54,14 @@ returns-then-not-take g c =
 
 pub loop-j-preserved : goal.loop-j-preserved
 loop-j-preserved g c =
-    let a = c.args.self.now in
-    let T = row_table a.rows.now in
+    let z = c.args.z in
+    let T = row_table c.args.rows.now in
     let l = c.loop-j in
-    let D = halves _ _ _ _ _ a.reads c.requires.cons in
+    let D = c.requires.halves.1 in
     let h = c.half_at-s.ensures in
     let s = c.half_at-s.result in
     let (y, t, q) = l.invariant.1 in
-    let e = bound-next T a.first a.n a.bounds a.reads.places l.j l.at _ (omega arith) l.invariant.0.place c.wide-e.ensures in
+    let e = bound-next T z.first z.n c.args.bounds.now c.requires.halves.2 l.j l.at _ (omega arith) l.invariant.0.place c.wide-e.ensures in
     let k = c.take.ensures in
     let u = takes-next _ _ _ _ _ _ y (standing T s.from s.to) t c.requires.open _ _ refl (span-takes _ _ _ _ _ _ T s.from s.to h.low_end h.high_end k.taken k.room k.same_loan) in
     let w = subst (λ (b : Bool). Takes g.S.Sink.holds g.S.Sink.room g.S.Sink.loan c.args.sink.now c.take.new.self b (y ++ standing T s.from s.to)) c.if-not-take.false u in
@@ -70,9 +69,7 @@ loop-j-preserved g c =
 
 pub returns : goal.returns
 returns g c =
-    let a = c.args.self.now in
-    let T = row_table a.rows.now in
     let l = c.loop-j in
     let (y, t, q) = l.invariant.1 in
-    let z = left_end T l.h l.at a.n l.j c.args.tails (omega arith) in
-    subst (λ (x : List (List ℕ)). Takes g.S.Sink.holds g.S.Sink.room g.S.Sink.loan c.args.sink.now l.sink true x) (sym (append-nil y) ∙ ap (λ (x : List (List ℕ)). y ++ x) (sym z) ∙ q) t
+    let n = left_end (row_table c.args.rows.now) l.h l.at c.args.z.n l.j c.args.z.tails (omega arith) in
+    subst (λ (x : List (List ℕ)). Takes g.S.Sink.holds g.S.Sink.room g.S.Sink.loan c.args.sink.now l.sink true x) (sym (append-nil y) ∙ ap (λ (x : List (List ℕ)). y ++ x) (sym n) ∙ q) t

@@ -8,7 +8,7 @@ use Rattle.meaning.specs.Terms.{row_of, sizes, grove}
 use Rattle.reduce.specs.Halves.{BoundsAt}
 use Rattle.reduce.proofs.Roots.{whole_in, some-row}
 use Rattle.reduce.proofs.Zipped.{zip-whole}
-use Rattle.reduce.proofs.zips.Zip.of.Goals as goal
+use Rattle.reduce.proofs.zips.bounds_of.Goals as goal
 
 pub row_of-requires : goal.row_of-requires
 row_of-requires c = some-row (row_table c.args.rows.now) (whole_in c.requires.0.one)
@@ -22,11 +22,11 @@ zip_bounds-requires c =
     let i = c.row_of.ensures.n in
     (refl, omega (arith, R.few), omega (arith, i, R.args e), ap (λ (x : ℕ). first + sizes (grove (map row_of T) first x)) (sym i) ∙ zip-whole T R.exact R.one e q first g)
 
-pub new-requires : goal.new-requires
-new-requires c =
+pub returns : goal.returns
+returns c =
     let T = row_table c.args.rows.now in
     let R = c.requires.0 in
     let i = c.row_of.ensures.n in
     let f = c.zip_bounds in
     let d : BoundsAt T c.args.first c.row_of.result.n f.new.bounds = record { long = f.auto.bounds; few = omega (arith, i, R.args c.requires.1.0); places = f.ensures } in
-    (R, c.requires.1, subst (λ (x : ℕ). BoundsAt T c.args.first x f.new.bounds) (sym i) d)
+    subst (λ (x : ℕ). BoundsAt T c.args.first x f.new.bounds) (sym i) d

@@ -5,10 +5,9 @@ use mathlib.Core.List.{map}
 use Rattle.layout.specs.Rows.{row_table}
 use Rattle.meaning.specs.Terms.{row_of, sizes, grove}
 use Rattle.meaning.specs.Steps.{any_nil}
-use Rattle.reduce.specs.Halves.{arguments}
-use Rattle.reduce.proofs.zips.Zip.any_nil.Given as goal
+use Rattle.reduce.proofs.zips.any_nil.Given as goal
 
 abbrev pub invariant-loop-j : goal.invariant-loop-j
 invariant-loop-j l =
-    (l.at ≡ l.self.first + sizes (arguments l.self.rows.now l.self.first l.j))
-    × (any_nil l.h (grove (map row_of (row_table l.self.rows.now)) l.at (l.self.n - l.j)) ≡ any_nil l.self.mask (arguments l.self.rows.now l.self.first l.self.n))
+    (l.at ≡ l.first + sizes (grove (map row_of (row_table l.rows)) l.first l.j))
+    × (any_nil l.left (grove (map row_of (row_table l.rows)) l.at (l.n - l.j)) ≡ any_nil l.m (grove (map row_of (row_table l.rows)) l.first l.n))

@@ -11,44 +11,43 @@ use Rattle.terms.proofs.Scan.{grove-none, size-some}
 use Rattle.reduce.proofs.Roots.{arg-in, arg-next}
 use Rattle.reduce.proofs.Parted.{bound-next}
 use Rattle.reduce.proofs.Zipped.{ready-next, ready-stop, ready-over}
-use Rattle.reduce.proofs.Zipping.{whole}
-use Rattle.reduce.proofs.zips.Zip.all_lists.Goals as goal
+use Rattle.reduce.proofs.zips.all_lists.Goals as goal
 
 pub loop-j-init : goal.loop-j-init
 loop-j-init c =
-    let a = c.args.self.now in
+    let a = c.args in
     let L = map row_of (row_table a.rows.now) in
     let z : a.n - 0 ≡ a.n = omega arith in
-    (omega (arith, grove-none L a.first), ap (λ (x : ℕ). ready a.mask (grove L a.first x)) z)
+    (omega (arith, grove-none L a.first), ap (λ (x : ℕ). ready a.m (grove L a.first x)) z)
 
 pub ready_at-requires : goal.ready_at-requires
 ready_at-requires c =
-    let a = c.args.self.now in
+    let a = c.args in
     let l = c.loop-j in
     let L = map row_of (row_table a.rows.now) in
-    let g = arg-in L a.first a.n l.j l.at (length (row_table a.rows.now)) (omega arith) l.invariant.0 (omega (arith, whole _ _ _ _ _ a.reads)) in
+    let g = arg-in L a.first a.n l.j l.at (length (row_table a.rows.now)) (omega arith) l.invariant.0 c.requires.1 in
     omega (arith, g, size-some (tree_at L l.at))
 
-pub bounds-self-j : goal.bounds-self-j
-bounds-self-j c = let p = c.args.self.now.reads.places in omega (arith, p.few, p.long)
+pub bounds-bounds-j : goal.bounds-bounds-j
+bounds-bounds-j c = let p = c.requires.0 in omega (arith, p.few, p.long)
 
 pub loop-j-preserved : goal.loop-j-preserved
 loop-j-preserved c =
-    let a = c.args.self.now in
+    let a = c.args in
     let l = c.loop-j in
     let L = map row_of (row_table a.rows.now) in
-    let e = bound-next (row_table a.rows.now) a.first a.n a.bounds a.reads.places l.j l.at _ (omega arith) l.invariant.0 c.wide-at.ensures in
-    (arg-next L a.first l.j l.at _ l.invariant.0 e, sym (ready-next L l.h l.at a.n l.j (omega arith) _ _ e c.ready_at.ensures c.if-not-ready_at.false) ∙ l.invariant.1)
+    let e = bound-next (row_table a.rows.now) a.first a.n a.bounds.now c.requires.0 l.j l.at _ (omega arith) l.invariant.0 c.wide-at.ensures in
+    (arg-next L a.first l.j l.at _ l.invariant.0 e, sym (ready-next L l.left l.at a.n l.j (omega arith) _ _ e c.ready_at.ensures c.if-not-ready_at.false) ∙ l.invariant.1)
 
 pub returns-then-not-ready_at : goal.returns-then-not-ready_at
 returns-then-not-ready_at c =
-    let a = c.args.self.now in
+    let a = c.args in
     let l = c.loop-j in
     let L = map row_of (row_table a.rows.now) in
-    sym (sym l.invariant.1 ∙ ready-stop L l.h l.at a.n l.j (omega arith) _ c.ready_at.ensures c.if-not-ready_at.true)
+    sym (sym l.invariant.1 ∙ ready-stop L l.left l.at a.n l.j (omega arith) _ c.ready_at.ensures c.if-not-ready_at.true)
 
 pub returns : goal.returns
 returns c =
-    let a = c.args.self.now in
+    let a = c.args in
     let l = c.loop-j in
-    sym (sym l.invariant.1 ∙ ready-over l.h a.n l.j (map row_of (row_table a.rows.now)) l.at (omega arith))
+    sym (sym l.invariant.1 ∙ ready-over l.left a.n l.j (map row_of (row_table a.rows.now)) l.at (omega arith))

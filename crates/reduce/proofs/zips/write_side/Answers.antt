@@ -1,0 +1,25 @@
+-- They go behind the rows that stand before them.
+use Prim.Native.Nat.{ℕ, ◌+◌, ◌-◌}
+use mathlib.Core.Path.{◌≡◌, refl, ap, sym, ◌∙◌}
+use mathlib.Core.List.{List, ◌∷◌, ◌++◌}
+use native.Mathlib.Omega.{arith}
+use lib.ListN.{length, take, length-append}
+use lib.Seq.{length-take-le}
+use Rattle.layout.specs.Rows.{numbers, row_table}
+use Rattle.put.specs.Put.{standing}
+use Rattle.put.proofs.Loops.{standing-length}
+use Rattle.reduce.specs.Halves.{half_of}
+use Rattle.reduce.proofs.Taking.{behind-front}
+use Rattle.reduce.proofs.zips.write_side.Goals as goal
+
+pub returns : goal.returns
+returns c =
+    let z = c.args.z in
+    let T = row_table c.args.rows.now in
+    let D = row_table c.args.to.now in
+    let X : List (List ℕ) = numbers c.args.r ∷ (standing T z.from z.first ++ half_of T z.first z.n z.mask z.tails) in
+    let n : length X ≡ 1 + (z.first - z.from) + length (half_of T z.first z.n z.mask z.tails) = omega (arith, length-append (standing T z.from z.first) (half_of T z.first z.n z.mask z.tails), standing-length T z.from z.first c.requires.3 (omega (arith, c.requires.1.inside))) in
+    let t = c.take_side.ensures in
+    let s = length-take-le c.args.start D (omega (arith, c.requires.4)) in
+    let h = (t.taken (t.fits (omega (arith, c.requires.4, n))) (take c.args.start D) (sym s, omega (arith, c.requires.4), refl)).0 in
+    behind-front D X c.args.start _ _ n s h.0 (ap (λ (y : List ℕ). take c.take_side.new.sink.rows (row_table y)) (c.to-1.given.1.1 (sym t.same_loan)) ∙ h.2)
