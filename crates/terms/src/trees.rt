@@ -67,7 +67,9 @@ pub fn check_shape(rows: &Rows, count: u16, edition: u16) -> Result<(), (Fault, 
     }
 }
 
-// The row behind the tree at row `at`, by a running count of the trees still owed. A while: it ends with the trees, wherever that is.
+// The row behind the tree at row `at`, by a running count of the trees still owed. A while: it ends with the trees, wherever that is. Out of line: where
+// it stood in the plans of rules, what a plan tells was set anew for each row.
+#[inline(never)]
 pub fn end_of(rows: &Rows, at: usize) -> usize
     requires { at + size (tree_at (map row_of rows.now) at) ≤ length rows.now }
     ensures { result ≡ at + size (tree_at (map row_of rows.now) at) }
